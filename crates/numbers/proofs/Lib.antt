@@ -1,0 +1,11 @@
+pub mod Round
+pub mod Magnitude
+pub mod Sum
+pub mod Steps
+pub mod Words
+pub mod Bits
+pub mod Agrees
+pub mod Format
+pub mod Back
+pub mod Gains
+pub mod Determined

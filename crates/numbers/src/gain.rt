@@ -1,0 +1,40 @@
+// A gain as a byte of half decibels down, and as a float. (Gain of commands.rs)
+ghost use mathlib.Core.Path.{_≡_};
+ghost use lib.Ieee.{binary32, toBits, ofBits};
+ghost use Rattle.numbers.specs.Gain.{byteOf, bitsOfByte};
+use crate::float::to_bits;
+
+pub struct Gain(pub f32);
+
+impl Gain {
+    // Minus one half times the byte: 0 gives -0.0.
+    pub fn from_u8(val: u8) -> Self
+        ensures { λ r. ⌜ r .0 ≡ ofBits binary32 (bitsOfByte val) ⌝ }
+    {
+        Gain(-0.5 * (val as f32))
+    }
+
+    // Twice the size, cut toward zero, 255 above, and 0 for a NaN.
+    pub fn to_u8(self) -> u8
+        ensures { λ r. ⌜ r ≡ byteOf (toBits binary32 (self .0)) ⌝ }
+    {
+        byte_of(to_bits(self.0))
+    }
+}
+
+// The byte of a pattern. 0x3f00_0000 is one half, and 0x4300_0000 is 128.
+fn byte_of(bits: u32) -> u8
+    ensures { λ r. ⌜ r ≡ byteOf bits ⌝ }
+{
+    let p = bits % 0x8000_0000;
+    if 0x7f80_0000 < p {
+        return 0;
+    }
+    if p < 0x3f00_0000 {
+        return 0;
+    }
+    if 0x4300_0000 <= p {
+        return 255;
+    }
+    ((0x80_0000 + p % 0x80_0000) >> (149 - p / 0x80_0000)) as u8
+}

@@ -1,0 +1,52 @@
+-- Each public function's contract fixes its answer and what it leaves.
+use Prim.Native.Nat.{ℕ}
+use mathlib.Core.Path.{_≡_}
+use mathlib.Core.List.{List}
+use denote.Ref.{now}
+use Rattle.octets.specs.Outcome.{written}
+use Rattle.octets.specs.declared.Written.{Written}
+use Rattle.octets.specs.declared.Written.the-variants.{Bytes, Refused}
+use Rattle.octets.proofs.Agree.{Fixes, agree, both}
+use Rattle.octets.proofs.put.Reads as put
+use Rattle.octets.proofs.number.byte.Reads as byte
+use Rattle.octets.proofs.number.big16.Reads as big16
+use Rattle.octets.proofs.number.big32.Reads as big32
+use Rattle.octets.proofs.number.little16.Reads as little16
+use Rattle.octets.proofs.number.little32.Reads as little32
+use Rattle.octets.proofs.number.big_bytes16.Reads as big-bytes16
+use Rattle.octets.proofs.number.big_bytes32.Reads as big-bytes32
+use Rattle.octets.proofs.number.little_bytes32.Reads as little-bytes32
+
+-- an answer is known by its reading
+pub written-once : (a b : Written) → written a ≡ written b → a ≡ b
+written-once (Bytes m) (Bytes n) e = cc
+written-once (Bytes m) (Refused k) e = cc
+written-once (Refused k) (Bytes m) e = cc
+written-once (Refused j) (Refused k) e = cc
+
+pub put-fixed : Fixes (Written × List ℕ) put.Post (λ κs answer left. (answer, now (left .1 .0)))
+put-fixed κs args a b x y p q = both written written-once (agree p q)
+
+pub byte-fixed : Fixes ℕ byte.Post (λ κs answer left. answer)
+byte-fixed κs args a b x y p q = agree p q
+
+pub big16-fixed : Fixes ℕ big16.Post (λ κs answer left. answer)
+big16-fixed κs args a b x y p q = agree p q
+
+pub big32-fixed : Fixes ℕ big32.Post (λ κs answer left. answer)
+big32-fixed κs args a b x y p q = agree p q
+
+pub little16-fixed : Fixes ℕ little16.Post (λ κs answer left. answer)
+little16-fixed κs args a b x y p q = agree p q
+
+pub little32-fixed : Fixes ℕ little32.Post (λ κs answer left. answer)
+little32-fixed κs args a b x y p q = agree p q
+
+pub big-bytes16-fixed : Fixes (List ℕ) big-bytes16.Post (λ κs answer left. answer)
+big-bytes16-fixed κs args a b x y p q = agree p q
+
+pub big-bytes32-fixed : Fixes (List ℕ) big-bytes32.Post (λ κs answer left. answer)
+big-bytes32-fixed κs args a b x y p q = agree p q
+
+pub little-bytes32-fixed : Fixes (List ℕ) little-bytes32.Post (λ κs answer left. answer)
+little-bytes32-fixed κs args a b x y p q = agree p q

@@ -1,0 +1,5 @@
+pub mod Choosing
+pub mod Overlay
+pub mod Agree
+pub mod Determined
+pub mod InBytes

@@ -1,0 +1,5 @@
+pub mod Refusals
+pub mod Outcome
+pub mod Choice
+pub mod Over
+pub mod Number
