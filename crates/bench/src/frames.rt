@@ -15,7 +15,7 @@ pub fn checksum(args: &[u8], out: &mut [u8]) -> usize {
     let Count::Bytes(n) = line::bytes_of(line::first(args), &mut bytes) else {
         return reply::bad_argument(1, out, 0);
     };
-    reply::hex(packet::checksum(line::part(&bytes, 0, n)), out, 0)
+    reply::hex(packet::checksum(line::head(&bytes, n)), out, 0)
 }
 
 // frame PACKET ROOM
@@ -32,8 +32,8 @@ pub fn frame(args: &[u8], out: &mut [u8]) -> usize {
     if LONGEST < room {
         return reply::bad_argument(2, out, 0);
     }
-    let written = packet::frame(line::part(&bytes, 0, n), line::front(&mut lent, room));
-    reply::written(written, line::part(&lent, 0, room), out, 0)
+    let written = packet::frame(line::head(&bytes, n), line::front(&mut lent, room));
+    reply::written(written, line::head(&lent, room), out, 0)
 }
 
 // plain BYTES
@@ -42,7 +42,7 @@ pub fn plain(args: &[u8], out: &mut [u8]) -> usize {
     let Count::Bytes(n) = line::bytes_of(line::first(args), &mut bytes) else {
         return reply::bad_argument(1, out, 0);
     };
-    let frame = line::part(&bytes, 0, n);
+    let frame = line::head(&bytes, n);
     received(packet::unframe(frame), frame, out)
 }
 
@@ -52,19 +52,19 @@ pub fn strict(args: &[u8], out: &mut [u8]) -> usize {
     let Count::Bytes(n) = line::bytes_of(line::first(args), &mut bytes) else {
         return reply::bad_argument(1, out, 0);
     };
-    let frame = line::part(&bytes, 0, n);
+    let frame = line::head(&bytes, n);
     received(packet::unframe_strict(frame), frame, out)
 }
 
 // A packet's place and the packet itself.
 fn received(answer: Received, bytes: &[u8], out: &mut [u8]) -> usize {
     match answer {
-        Received::Packet { start, len } => {
-            let mut end = reply::decimal(start as u64, out, 0);
+        Received::Packet(place) => {
+            let mut end = reply::decimal(place.start as u64, out, 0);
             end = reply::text(b" ", out, end);
-            end = reply::decimal(len as u64, out, end);
+            end = reply::decimal(place.len as u64, out, end);
             end = reply::text(b" ", out, end);
-            reply::bytes(line::part(bytes, start, len), out, end)
+            reply::bytes(octets::part(bytes, place), out, end)
         }
         Received::Refused(number) => reply::refused(number, out, 0),
     }

@@ -1,6 +1,7 @@
 // The words of a request: parts of its line, parted by spaces.
 ghost use Prim.Native.Nat.{_≤_, _<_};
 ghost use lib.ListN.{length};
+use octets::Place;
 
 // Where a word stands: from start up to, and without, end.
 pub struct Word {
@@ -32,16 +33,9 @@ pub fn rest(line: &[u8]) -> &[u8] {
     &line[end..]
 }
 
-// The part of the bytes that a place names, and none where it lies outside.
-pub fn part(bytes: &[u8], start: usize, len: usize) -> &[u8] {
-    if bytes.len() < start {
-        return &bytes[0..0];
-    }
-    if bytes.len() - start < len {
-        return &bytes[0..0];
-    }
-    let end = start + len;
-    &bytes[start..end]
+// The first n bytes, or all of them.
+pub fn head(bytes: &[u8], n: usize) -> &[u8] {
+    octets::part(bytes, Place { start: 0, len: n })
 }
 
 // The first n bytes of a buffer, or all of it.

@@ -1,6 +1,7 @@
 -- Each public function's contract fixes its answer and what it leaves.
 use Prim.Native.Nat.{ℕ}
 use mathlib.Core.Path.{_≡_}
+use mathlib.Core.Bool.{Bool}
 use mathlib.Core.List.{List}
 use denote.Ref.{now}
 use Rattle.octets.specs.Outcome.{written}
@@ -8,12 +9,16 @@ use Rattle.octets.specs.declared.Written.{Written}
 use Rattle.octets.specs.declared.Written.the-variants.{Bytes, Refused}
 use Rattle.octets.proofs.Agree.{Fixes, agree, both}
 use Rattle.octets.proofs.put.Reads as put
+use Rattle.octets.proofs.inside.Reads as inside
+use Rattle.octets.proofs.part.Reads as part
 use Rattle.octets.proofs.number.byte.Reads as byte
 use Rattle.octets.proofs.number.big16.Reads as big16
+use Rattle.octets.proofs.number.big24.Reads as big24
 use Rattle.octets.proofs.number.big32.Reads as big32
 use Rattle.octets.proofs.number.little16.Reads as little16
 use Rattle.octets.proofs.number.little32.Reads as little32
 use Rattle.octets.proofs.number.big_bytes16.Reads as big-bytes16
+use Rattle.octets.proofs.number.big_bytes24.Reads as big-bytes24
 use Rattle.octets.proofs.number.big_bytes32.Reads as big-bytes32
 use Rattle.octets.proofs.number.little_bytes32.Reads as little-bytes32
 
@@ -27,11 +32,20 @@ written-once (Refused j) (Refused k) e = cc
 pub put-fixed : Fixes (Written × List ℕ) put.Post (λ κs answer left. (answer, now (left .1 .0)))
 put-fixed κs args a b x y p q = both written written-once (agree p q)
 
+pub inside-fixed : Fixes Bool inside.Post (λ κs answer left. answer)
+inside-fixed κs args a b x y p q = agree p q
+
+pub part-fixed : Fixes (List ℕ) part.Post (λ κs answer left. now answer)
+part-fixed κs args a b x y p q = agree p q
+
 pub byte-fixed : Fixes ℕ byte.Post (λ κs answer left. answer)
 byte-fixed κs args a b x y p q = agree p q
 
 pub big16-fixed : Fixes ℕ big16.Post (λ κs answer left. answer)
 big16-fixed κs args a b x y p q = agree p q
+
+pub big24-fixed : Fixes ℕ big24.Post (λ κs answer left. answer)
+big24-fixed κs args a b x y p q = agree p q
 
 pub big32-fixed : Fixes ℕ big32.Post (λ κs answer left. answer)
 big32-fixed κs args a b x y p q = agree p q
@@ -44,6 +58,9 @@ little32-fixed κs args a b x y p q = agree p q
 
 pub big-bytes16-fixed : Fixes (List ℕ) big-bytes16.Post (λ κs answer left. answer)
 big-bytes16-fixed κs args a b x y p q = agree p q
+
+pub big-bytes24-fixed : Fixes (List ℕ) big-bytes24.Post (λ κs answer left. answer)
+big-bytes24-fixed κs args a b x y p q = agree p q
 
 pub big-bytes32-fixed : Fixes (List ℕ) big-bytes32.Post (λ κs answer left. answer)
 big-bytes32-fixed κs args a b x y p q = agree p q

@@ -3,3 +3,4 @@ pub mod Overlay
 pub mod Agree
 pub mod Determined
 pub mod InBytes
+pub mod Parts

@@ -3,3 +3,4 @@ pub mod Outcome
 pub mod Choice
 pub mod Over
 pub mod Number
+pub mod Place

@@ -1,8 +1,10 @@
-// What every format of the port needs: refusal numbers under names, and bytes written over the
-// start of a lent output.
+// What every format of the port needs: refusal numbers under names, places in lent bytes, bytes
+// written over the start of a lent output, and numbers in bytes.
 ghost use mathlib.Core.Path.{_≡_};
+ghost use lib.ListN.{length};
 ghost use Rattle.octets.specs.Outcome.{written};
 ghost use Rattle.octets.specs.Over.{into};
+ghost use Rattle.octets.specs.Place.{partOf, insideOf};
 
 pub mod number;
 pub mod refusal;
@@ -26,4 +28,39 @@ pub fn put(bytes: &[u8], out: &mut [u8]) -> Written
         i += 1;
     }
     Written::Bytes(bytes.len())
+}
+
+// A place in lent bytes, which stands for the bytes there.
+pub struct Place {
+    pub start: usize,
+    pub len: usize,
+}
+
+// Whether a place lies within so many bytes.
+pub fn inside(place: Place, have: usize) -> bool
+    ensures { λ r. ⌜ r ≡ insideOf place have ⌝ }
+{
+    if have < place.start {
+        return false;
+    }
+    if have - place.start < place.len {
+        return false;
+    }
+    true
+}
+
+// The bytes at a place, so far as there are any.
+pub fn part(bytes: &[u8], place: Place) -> &[u8]
+    ensures { λ r. ⌜ now r ≡ partOf (now (bytes .entry)) place ⌝ }
+{
+    let start = place.start;
+    let len = place.len;
+    if bytes.len() <= start {
+        return &bytes[0..0];
+    }
+    if bytes.len() - start < len {
+        return &bytes[start..];
+    }
+    let end = start + len;
+    &bytes[start..end]
 }

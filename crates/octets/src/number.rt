@@ -23,6 +23,16 @@ pub fn big16(bytes: &[u8], place: usize) -> u16
     byte(bytes, place) as u16 * 256 + byte(bytes, place + 1) as u16
 }
 
+// Three bytes, the most significant first.
+pub fn big24(bytes: &[u8], place: usize) -> u32
+    ensures { λ r. ⌜ r ≡ bigAt 3 (now (bytes .entry)) place ⌝ }
+{
+    if bytes.len() <= place {
+        return 0;
+    }
+    big16(bytes, place) as u32 * 256 + byte(bytes, place + 2) as u32
+}
+
 // Four bytes, the most significant first.
 pub fn big32(bytes: &[u8], place: usize) -> u32
     ensures { λ r. ⌜ r ≡ bigAt 4 (now (bytes .entry)) place ⌝ }
@@ -58,6 +68,17 @@ pub fn big_bytes16(n: u16) -> [u8; 2]
     ensures { λ r. ⌜ r ≡ bigBytes 2 n ⌝ }
 {
     [(n / 256 % 256) as u8, (n % 256) as u8]
+}
+
+// The low three bytes of a number, the most significant first.
+pub fn big_bytes24(n: u32) -> [u8; 3]
+    ensures { λ r. ⌜ r ≡ bigBytes 3 n ⌝ }
+{
+    [
+        (n / 65536 % 256) as u8,
+        (n / 256 % 256) as u8,
+        (n % 256) as u8,
+    ]
 }
 
 // The four bytes of a number, the most significant first.

@@ -1,0 +1,18 @@
+-- "Bytes, Vec and BytesMut: a place and length in a lent packet"
+use Prim.Native.Nat.{ℕ, _+_}
+use mathlib.Core.Bool.{Bool}
+use mathlib.Core.List.{List}
+use lib.Dec.{leb}
+use lib.ListN.{take, drop}
+use Rattle.octets.specs.declared.Place.{Place}
+
+abbrev pub placeAt : ℕ → ℕ → Place
+placeAt start len = record { start = start; len = len }
+
+-- the bytes at a place
+unfoldable pub partOf : List ℕ → Place → List ℕ
+partOf bytes place = take (place .len) (drop (place .start) bytes)
+
+-- whether it lies within so many bytes
+unfoldable pub insideOf : Place → ℕ → Bool
+insideOf place have = leb (place .start + place .len) have
