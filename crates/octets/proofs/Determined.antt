@@ -9,7 +9,7 @@ use Rattle.octets.specs.declared.Written.{Written}
 use Rattle.octets.specs.declared.Written.the-variants.{Bytes, Refused}
 use Rattle.octets.proofs.Agree.{Fixes, agree, both}
 use Rattle.octets.proofs.put.Reads as put
-use Rattle.octets.proofs.inside.Reads as inside
+use Rattle.octets.proofs.outside.Reads as outside
 use Rattle.octets.proofs.part.Reads as part
 use Rattle.octets.proofs.number.byte.Reads as byte
 use Rattle.octets.proofs.number.big16.Reads as big16
@@ -32,8 +32,8 @@ written-once (Refused j) (Refused k) e = cc
 pub put-fixed : Fixes (Written × List ℕ) put.Post (λ κs answer left. (answer, now (left .1 .0)))
 put-fixed κs args a b x y p q = both written written-once (agree p q)
 
-pub inside-fixed : Fixes Bool inside.Post (λ κs answer left. answer)
-inside-fixed κs args a b x y p q = agree p q
+pub outside-fixed : Fixes Bool outside.Post (λ κs answer left. answer)
+outside-fixed κs args a b x y p q = agree p q
 
 pub part-fixed : Fixes (List ℕ) part.Post (λ κs answer left. now answer)
 part-fixed κs args a b x y p q = agree p q

@@ -6,9 +6,9 @@ use mathlib.Core.List.{List, []}
 use native.Mathlib.Omega.{arith}
 use lib.ListN.{length, take, drop, length-take, length-drop, drop-of-length-le}
 use lib.Seq.{take-all, take-nil}
-use borrow.Author.Tests.{lt-leb, le-leb, leb-true}
+use borrow.Author.Tests.{lt-ltb, le-ltb, ltb-false}
 use Rattle.octets.specs.declared.Place.{Place}
-use Rattle.octets.specs.Place.{partOf, insideOf}
+use Rattle.octets.specs.Place.{partOf, outsideOf}
 
 module _ (l : List ℕ) (p : Place) where
   pub part-none : length l ≤ p .start → [] ≡ partOf l p
@@ -31,14 +31,14 @@ module _ (l : List ℕ) (p : Place) where
   length-part h = simp (length-take, length-drop) (omega arith)
 
 module _ (p : Place) (have : ℕ) where
-  pub is-inside : p .start + p .len ≤ have → true ≡ insideOf p have
-  unfolding insideOf
-  is-inside h = sym (le-leb _ _ h)
+  pub is-inside : p .start + p .len ≤ have → false ≡ outsideOf p have
+  unfolding outsideOf
+  is-inside h = sym (le-ltb _ _ h)
 
-  pub is-outside : have < p .start + p .len → false ≡ insideOf p have
-  unfolding insideOf
-  is-outside h = sym (lt-leb _ _ h)
+  pub is-outside : have < p .start + p .len → true ≡ outsideOf p have
+  unfolding outsideOf
+  is-outside h = sym (lt-ltb _ _ h)
 
-  pub was-inside : insideOf p have ≡ true → p .start + p .len ≤ have
-  unfolding insideOf
-  was-inside e = leb-true _ _ e
+  pub was-inside : outsideOf p have ≡ false → p .start + p .len ≤ have
+  unfolding outsideOf
+  was-inside e = ltb-false _ _ e

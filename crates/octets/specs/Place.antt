@@ -2,7 +2,7 @@
 use Prim.Native.Nat.{ℕ, _+_}
 use mathlib.Core.Bool.{Bool}
 use mathlib.Core.List.{List}
-use lib.Dec.{leb}
+use lib.Dec.{ltb}
 use lib.ListN.{take, drop}
 use Rattle.octets.specs.declared.Place.{Place}
 
@@ -13,6 +13,6 @@ placeAt start len = record { start = start; len = len }
 unfoldable pub partOf : List ℕ → Place → List ℕ
 partOf bytes place = take (place .len) (drop (place .start) bytes)
 
--- whether it lies within so many bytes
-unfoldable pub insideOf : Place → ℕ → Bool
-insideOf place have = leb (place .start + place .len) have
+-- whether it runs past so many bytes
+unfoldable pub outsideOf : Place → ℕ → Bool
+outsideOf place have = ltb have (place .start + place .len)

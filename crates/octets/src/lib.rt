@@ -4,7 +4,7 @@ ghost use mathlib.Core.Path.{_≡_};
 ghost use lib.ListN.{length};
 ghost use Rattle.octets.specs.Outcome.{written};
 ghost use Rattle.octets.specs.Over.{into};
-ghost use Rattle.octets.specs.Place.{partOf, insideOf};
+ghost use Rattle.octets.specs.Place.{partOf, outsideOf};
 
 pub mod number;
 pub mod refusal;
@@ -36,17 +36,17 @@ pub struct Place {
     pub len: usize,
 }
 
-// Whether a place lies within so many bytes.
-pub fn inside(place: Place, have: usize) -> bool
-    ensures { λ r. ⌜ r ≡ insideOf place have ⌝ }
+// Whether a place runs past so many bytes.
+pub fn outside(place: Place, have: usize) -> bool
+    ensures { λ r. ⌜ r ≡ outsideOf place have ⌝ }
 {
     if have < place.start {
-        return false;
+        return true;
     }
     if have - place.start < place.len {
-        return false;
+        return true;
     }
-    true
+    false
 }
 
 // The bytes at a place, so far as there are any.

@@ -2,8 +2,8 @@
 use native.Mathlib.Omega.{arith}
 use borrow.Author.Needs.{needs}
 use Rattle.octets.proofs.Parts.{is-inside, is-outside}
-use Rattle.octets.proofs.inside.Statement.{statement}
-use Rattle.octets.proofs.inside.Tie as tie
+use Rattle.octets.proofs.outside.Statement.{statement}
+use Rattle.octets.proofs.outside.Tie as tie
 
 returns : tie.Need-returns
 returns c = is-outside _ _ (omega arith)
@@ -14,5 +14,5 @@ returns-2 c = is-outside _ _ (omega arith)
 returns-3 : tie.Need-returns-3
 returns-3 c = is-inside _ _ (omega arith)
 
-pub inside-spec : {M : Type 1} → statement M
-inside-spec = tie.close (tie.spec returns returns-2 returns-3)
+pub outside-spec : {M : Type 1} → statement M
+outside-spec = tie.close (tie.spec returns returns-2 returns-3)

@@ -1,0 +1,3 @@
+pub mod Addrs
+pub mod Rows
+pub mod Settled

@@ -1,0 +1,14 @@
+-- The place is outside, or its bytes are copied.
+use borrow.Author.Needs.{needs}
+use Rattle.fields.proofs.value.put_part.Statement.{statement}
+use Rattle.fields.proofs.value.put_part.Tie as tie
+
+returns : tie.Need-returns
+returns c = rw (← c .before .outside .ensures, c .if1 .taken)
+
+returns-2 : tie.Need-returns-2
+returns-2 c = let put = c .before .before in let part = put .before .before in rw (put .put .ensures, part .part .ensures, ← part .before .before .outside .ensures, part .before .if1 .left)
+
+pub put-part-spec : {M : Type 1} → statement M
+put-part-spec =
+    tie.close (tie.spec (λ c κs. search needs) returns (λ c κs. search needs) (λ c κs. search needs) (λ c. search needs) returns-2)

@@ -1,0 +1,3 @@
+pub mod Addr
+pub mod Value
+pub mod Row

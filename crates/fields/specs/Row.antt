@@ -1,0 +1,95 @@
+-- A packet is a row of fields: numbers, addresses, values, and parts of the bytes that the caller lends.
+use Prim.Native.Nat.{ℕ, zero, suc, _+_, _-_, _*_}
+use mathlib.Core.Path.{_≡_}
+use mathlib.Core.Bool.{Bool, true, false}
+use mathlib.Core.List.{List, [], _∷_, _++_}
+use lib.ListN.{length}
+use Rattle.octets.specs.Refusals.{addressLength, outside, tooLong}
+use Rattle.octets.specs.Outcome.{Outcome, accepted, refused}
+use Rattle.octets.specs.Choice.{pick, ifLt}
+use Rattle.octets.specs.Over.{settle}
+use Rattle.octets.specs.Number.{bigBytes}
+use Rattle.octets.specs.Place.{placeAt, partOf, outsideOf}
+use Rattle.packet.specs.Frame.{frameOf}
+use Rattle.fields.specs.Addr.{wrongLength, addrBytes}
+use Rattle.fields.specs.Value.{valueBytes, valueOutside}
+use Rattle.fields.specs.declared.row.Cell.{Cell}
+use Rattle.fields.specs.declared.row.Field.{Field}
+use Rattle.fields.specs.declared.row.Field.the-variants.{Nothing, Byte, Word, Address, Coded, Payload, Floats}
+
+-- the bytes of a field; p is what the caller lends. "numbers are big-endian unless said"
+abbrev pub bytesOf : List ℕ → Field → List ℕ
+bytesOf p Nothing = []
+bytesOf p (Byte n) = n ∷ []
+bytesOf p (Word n) = bigBytes 2 n
+bytesOf p (Address a) = addrBytes a
+bytesOf p (Coded v) = valueBytes v p
+bytesOf p (Payload place) = partOf p place
+bytesOf p (Floats start count) = partOf p (placeAt start (4 * count))
+
+unfoldable pub packetOf : List ℕ → List Field → List ℕ
+packetOf p [] = []
+packetOf p (f ∷ fs) = bytesOf p f ++ packetOf p fs
+
+-- "address to be written, in a record of length other than 2 or 3"
+abbrev pub misaddressed : Field → Bool
+misaddressed Nothing = false
+misaddressed (Byte n) = false
+misaddressed (Word n) = false
+misaddressed (Address a) = wrongLength (a .len)
+misaddressed (Coded v) = false
+misaddressed (Payload place) = false
+misaddressed (Floats start count) = false
+
+-- "address, place or part outside memory, view or payload": here a place outside so many lent bytes
+abbrev pub misplaced : ℕ → Field → Bool
+misplaced have Nothing = false
+misplaced have (Byte n) = false
+misplaced have (Word n) = false
+misplaced have (Address a) = false
+misplaced have (Coded v) = valueOutside v have
+misplaced have (Payload place) = outsideOf place have
+misplaced have (Floats start count) = outsideOf (placeAt start (4 * count)) have
+
+unfoldable pub anyOf : (Field → Bool) → List Field → Bool
+anyOf test [] = false
+anyOf test (f ∷ fs) = pick (test f) true (anyOf test fs)
+
+-- a field that nothing is wrong with, and a row of such fields
+pub record Sound (p : List ℕ) (f : Field) : Type 0 where
+  pub addressed : misaddressed f ≡ false
+  pub placed : misplaced (length p) f ≡ false
+
+pub record AllSound (p : List ℕ) (row : List Field) : Type 0 where
+  pub addressed : anyOf misaddressed row ≡ false
+  pub placed : anyOf (misplaced (length p)) row ≡ false
+
+-- "Encoding: 8, 7, 5, 6."
+unfoldable pub encodedOf : List ℕ → List Field → Outcome (List ℕ)
+encodedOf p row =
+    pick (anyOf misaddressed row) (refused addressLength)
+    (pick (anyOf (misplaced (length p)) row) (refused outside)
+    (ifLt 254 (length (packetOf p row)) (refused tooLong) (accepted (packetOf p row))))
+
+-- how many bytes that takes
+abbrev pub counted : Outcome (List ℕ) → Outcome ℕ
+counted (accepted bytes) = accepted (length bytes)
+counted (refused k) = refused k
+
+abbrev pub writeInto : List ℕ → List Field → List ℕ → Outcome ℕ × List ℕ
+writeInto p row out = settle (encodedOf p row) (λ bytes. bytes) out
+
+abbrev pub frameInto : List ℕ → List Field → List ℕ → Outcome ℕ × List ℕ
+frameInto p row out = settle (encodedOf p row) frameOf out
+
+-- a row in an array of eight: what is not needed is Nothing
+unfoldable pub fieldsOf : List Cell → List Field
+fieldsOf [] = []
+fieldsOf (c ∷ cs) = c .field ∷ fieldsOf cs
+
+unfoldable pub nothings : ℕ → List Field
+nothings zero = []
+nothings (suc k) = Nothing ∷ nothings k
+
+unfoldable pub padded : List Field → List Field
+padded row = row ++ nothings (8 - length row)

@@ -1,0 +1,303 @@
+// A packet as a row of fields, and the one writer of all packets. Everything is settled on the row
+// before anything is written.
+ghost use mathlib.Core.Path.{_≡_};
+ghost use mathlib.Core.Bool.{false};
+ghost use mathlib.Core.List.{[], _∷_};
+ghost use Prim.Native.Nat.{_*_, _≤_, min};
+ghost use lib.ListN.{length};
+ghost use Rattle.octets.specs.Outcome.{written};
+ghost use Rattle.octets.specs.Over.{over, into};
+ghost use Rattle.octets.specs.Place.{placeAt, partOf, outsideOf};
+ghost use Rattle.fields.specs.Value.{valueBytes, valueOutside};
+ghost use Rattle.fields.specs.Row.{bytesOf, packetOf, misaddressed, misplaced, anyOf, Sound, AllSound, encodedOf, counted, writeInto, frameInto, fieldsOf, padded};
+use crate::addr::Addr;
+use crate::value::Value;
+use octets::Place;
+use octets::Written;
+use octets::number;
+use octets::refusal;
+
+// A field of a packet. A payload and floats stand in lent bytes; a float takes four of them.
+pub enum Field {
+    Nothing,
+    Byte(u8),
+    Word(u16),
+    Address(Addr),
+    Coded(Value),
+    Payload(Place),
+    Floats { start: usize, count: usize },
+}
+
+// A field in an array.
+pub struct Cell {
+    pub field: Field,
+}
+
+fn is_misaddressed(field: Field) -> bool
+    ensures { λ r. ⌜ r ≡ misaddressed field ⌝ }
+{
+    match field {
+        Field::Nothing => false,
+        Field::Byte(_) => false,
+        Field::Word(_) => false,
+        Field::Address(a) => a.has_wrong_length(),
+        Field::Coded(_) => false,
+        Field::Payload(_) => false,
+        Field::Floats { start: _, count: _ } => false,
+    }
+}
+
+fn is_misplaced(field: Field, have: usize) -> bool
+    ensures { λ r. ⌜ r ≡ misplaced have field ⌝ }
+{
+    match field {
+        Field::Nothing => false,
+        Field::Byte(_) => false,
+        Field::Word(_) => false,
+        Field::Address(_) => false,
+        Field::Coded(value) => value.is_outside(have),
+        Field::Payload(place) => octets::outside(place, have),
+        Field::Floats { start, count } => floats_outside(start, count, have),
+    }
+}
+
+// Whether count floats from start run past so many bytes: divided, since four times a count can
+// overflow.
+fn floats_outside(start: usize, count: usize, have: usize) -> bool
+    ensures { λ r. ⌜ r ≡ outsideOf (placeAt start (4 * count)) have ⌝ }
+{
+    if have < start {
+        return true;
+    }
+    if (have - start) / 4 < count {
+        return true;
+    }
+    false
+}
+
+fn any_misaddressed(row: [Cell; 8]) -> bool
+    ensures { λ r. ⌜ r ≡ anyOf misaddressed (fieldsOf row) ⌝ }
+{
+    let mut i = 0;
+    while i < 8 {
+        let cell = row[i];
+        let field = cell.field;
+        if is_misaddressed(field) {
+            return true;
+        }
+        i += 1;
+    }
+    false
+}
+
+fn any_misplaced(row: [Cell; 8], have: usize) -> bool
+    ensures { λ r. ⌜ r ≡ anyOf (misplaced have) (fieldsOf row) ⌝ }
+{
+    let mut i = 0;
+    while i < 8 {
+        let cell = row[i];
+        let field = cell.field;
+        if is_misplaced(field, have) {
+            return true;
+        }
+        i += 1;
+    }
+    false
+}
+
+// How many bytes a field takes, and 255 where it is more: no packet is that long.
+fn field_len(field: Field, payload: &[u8]) -> usize
+    requires { ⌜ Sound (now payload) field ⌝ }
+    ensures { λ r. ⌜ r ≡ min 255 (length (bytesOf (now (payload .entry)) field)) ⌝ }
+{
+    match field {
+        Field::Nothing => 0,
+        Field::Byte(_) => 1,
+        Field::Word(_) => 2,
+        Field::Address(a) => a.len as usize,
+        Field::Coded(value) => value_len(value, payload),
+        Field::Payload(place) => capped(place.len),
+        Field::Floats { start: _, count } => floats_len(count),
+    }
+}
+
+fn value_len(value: Value, payload: &[u8]) -> usize
+    requires { ⌜ valueOutside value (length (now payload)) ≡ false ⌝ }
+    ensures { λ r. ⌜ r ≡ min 255 (length (valueBytes value (now (payload .entry)))) ⌝ }
+{
+    match value {
+        Value::Float(_) => 4,
+        Value::FixedPoint(_) => 4,
+        Value::Int(_) => 4,
+        Value::Int32(_) => 4,
+        Value::Unknown(place) => capped(place.len),
+    }
+}
+
+fn capped(n: usize) -> usize
+    ensures { λ r. ⌜ r ≡ min 255 n ⌝ }
+{
+    if 255 < n {
+        return 255;
+    }
+    n
+}
+
+fn floats_len(count: usize) -> usize
+    ensures { λ r. ⌜ r ≡ min 255 (4 * count) ⌝ }
+{
+    if 63 < count {
+        return 255;
+    }
+    4 * count
+}
+
+// The same of a whole row.
+fn row_len(row: [Cell; 8], payload: &[u8]) -> usize
+    requires { ⌜ AllSound (now payload) (fieldsOf row) ⌝ }
+    ensures { λ r. ⌜ r ≡ min 255 (length (packetOf (now (payload .entry)) (fieldsOf row))) ⌝ }
+{
+    let mut total = 0;
+    let mut i = 0;
+    while i < 8 {
+        let cell = row[i];
+        let field = cell.field;
+        let n = field_len(field, payload);
+        total = capped(total + n);
+        i += 1;
+    }
+    total
+}
+
+// What writing the row comes to: how many bytes, at most 254, or 8, 7 or 5.
+fn settled(row: [Cell; 8], payload: &[u8]) -> Written
+    ensures { λ r. ⌜ written r ≡ counted (encodedOf (now (payload .entry)) (fieldsOf row)) ⌝ }
+{
+    if any_misaddressed(row) {
+        return Written::Refused(refusal::ADDRESS_LENGTH);
+    }
+    if any_misplaced(row, payload.len()) {
+        return Written::Refused(refusal::OUTSIDE);
+    }
+    let n = row_len(row, payload);
+    if packet::LONGEST < n {
+        return Written::Refused(refusal::TOO_LONG);
+    }
+    Written::Bytes(n)
+}
+
+fn put_field(field: Field, payload: &[u8], out: &mut [u8]) -> Written
+    requires { ⌜ Sound (now payload) field ⌝ }
+    ensures { λ r. ⌜ (written r, now (out .exit)) ≡ into (bytesOf (now (payload .entry)) field) (now (out .entry)) ⌝ }
+{
+    match field {
+        Field::Nothing => Written::Bytes(0),
+        Field::Byte(n) => octets::put(&[n], out),
+        Field::Word(n) => octets::put(&number::big_bytes16(n), out),
+        Field::Address(a) => a.write(out),
+        Field::Coded(value) => value.into_bytes(payload, out),
+        Field::Payload(place) => octets::put(octets::part(payload, place), out),
+        Field::Floats { start, count } => put_floats(payload, start, count, out),
+    }
+}
+
+fn put_floats(payload: &[u8], start: usize, count: usize, out: &mut [u8]) -> Written
+    requires { ⌜ outsideOf (placeAt start (4 * count)) (length (now payload)) ≡ false ⌝ }
+    ensures { λ r. ⌜ (written r, now (out .exit)) ≡ into (partOf (now (payload .entry)) (placeAt start (4 * count))) (now (out .entry)) ⌝ }
+{
+    let len = 4 * count;
+    octets::put(octets::part(payload, Place { start, len }), out)
+}
+
+// Writes the row over the start of out, field by field.
+fn put_row(row: [Cell; 8], payload: &[u8], out: &mut [u8])
+    requires { ⌜ AllSound (now payload) (fieldsOf row) ⌝ }
+    requires { ⌜ length (packetOf (now payload) (fieldsOf row)) ≤ 254 ⌝ }
+    requires { ⌜ length (packetOf (now payload) (fieldsOf row)) ≤ length (now out) ⌝ }
+    ensures { λ _. ⌜ now (out .exit) ≡ over (packetOf (now (payload .entry)) (fieldsOf row)) (now (out .entry)) ⌝ }
+{
+    let mut at = 0;
+    let mut i = 0;
+    while i < 8 {
+        let cell = row[i];
+        let field = cell.field;
+        let n = field_len(field, payload);
+        put_field(field, payload, &mut out[at..]);
+        at += n;
+        i += 1;
+    }
+}
+
+// Writes the packet of a row over the start of out.
+pub fn write(row: [Cell; 8], payload: &[u8], out: &mut [u8]) -> Written
+    ensures { λ r. ⌜ (written r, now (out .exit)) ≡ writeInto (now (payload .entry)) (fieldsOf row) (now (out .entry)) ⌝ }
+{
+    match settled(row, payload) {
+        Written::Bytes(n) => {
+            if out.len() < n {
+                return Written::Refused(refusal::NO_ROOM);
+            }
+            put_row(row, payload, out);
+            Written::Bytes(n)
+        }
+        Written::Refused(k) => Written::Refused(k),
+    }
+}
+
+// Writes the frame of a row's packet: the packet to out from its second byte onward, then the
+// checksum.
+pub fn frame(row: [Cell; 8], payload: &[u8], out: &mut [u8]) -> Written
+    ensures { λ r. ⌜ (written r, now (out .exit)) ≡ frameInto (now (payload .entry)) (fieldsOf row) (now (out .entry)) ⌝ }
+{
+    match settled(row, payload) {
+        Written::Bytes(n) => {
+            if out.len() < n + 2 {
+                return Written::Refused(refusal::NO_ROOM);
+            }
+            let end = n + 1;
+            octets::put(&[end as u8], out);
+            put_row(row, payload, &mut out[1..]);
+            let sum = packet::checksum(&out[0..end]);
+            octets::put(&[sum], &mut out[end..]);
+            Written::Bytes(n + 2)
+        }
+        Written::Refused(k) => Written::Refused(k),
+    }
+}
+
+// Rows of one to four fields.
+pub fn row1(a: Field) -> [Cell; 8]
+    ensures { λ r. ⌜ fieldsOf r ≡ padded (a ∷ []) ⌝ }
+{
+    row4(a, Field::Nothing, Field::Nothing, Field::Nothing)
+}
+
+pub fn row2(a: Field, b: Field) -> [Cell; 8]
+    ensures { λ r. ⌜ fieldsOf r ≡ padded (a ∷ b ∷ []) ⌝ }
+{
+    row4(a, b, Field::Nothing, Field::Nothing)
+}
+
+pub fn row3(a: Field, b: Field, c: Field) -> [Cell; 8]
+    ensures { λ r. ⌜ fieldsOf r ≡ padded (a ∷ b ∷ c ∷ []) ⌝ }
+{
+    row4(a, b, c, Field::Nothing)
+}
+
+pub fn row4(a: Field, b: Field, c: Field, d: Field) -> [Cell; 8]
+    ensures { λ r. ⌜ fieldsOf r ≡ padded (a ∷ b ∷ c ∷ d ∷ []) ⌝ }
+{
+    let none = Cell {
+        field: Field::Nothing,
+    };
+    [
+        Cell { field: a },
+        Cell { field: b },
+        Cell { field: c },
+        Cell { field: d },
+        none,
+        none,
+        none,
+        none,
+    ]
+}
