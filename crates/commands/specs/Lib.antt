@@ -1,0 +1,4 @@
+pub mod Encode
+pub mod Decode
+pub mod Mute
+pub mod Dialect

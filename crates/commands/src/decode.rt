@@ -1,0 +1,313 @@
+// Reading commands. (Commands::from_bytes)
+ghost use mathlib.Core.Path.{_≡_};
+ghost use Prim.Native.Nat.{_≤_, _<_};
+ghost use mathlib.Core.Bool.{not};
+ghost use lib.ListN.{length};
+ghost use Rattle.commands.specs.Decode.{parsed, needing as needed, rest, isSet, readOf, writeMemoryOf, readMemoryOf, unk07Of, writeOf, readFloatsOf, setMuteOf, bypassOf, setConfigOf, switchMuxOf, biquadOf, setSourceOf, firStartOf, firDataOf, setVolumeOf, kindOf, commandOf, noValues, unknownAt, fiveFrom, valuesAt};
+use crate::Commands;
+use fields::addr::Addr;
+use fields::value::Coefficient;
+use fields::value::Value;
+use numbers::gain::Gain;
+use octets::Place;
+use octets::number;
+use octets::refusal;
+
+// A command that was read, or the number of the refusal.
+pub enum Parsed {
+    Command(Commands),
+    Refused(u8),
+}
+
+// The same, with the values that stand beside a command.
+pub struct Decoded {
+    pub answer: Parsed,
+    pub values: [Coefficient; 5],
+}
+
+impl Commands {
+    // Reads a packet. A payload of the command stands in the packet.
+    pub fn from_bytes(packet: &[u8]) -> Decoded
+        ensures { λ r. ⌜ (parsed (r .answer) ≡ commandOf (now (packet .entry))) × (r .values ≡ valuesAt (now (packet .entry))) ⌝ }
+    {
+        let answer = command_of(packet);
+        let values = values_at(packet);
+        Decoded { answer, values }
+    }
+}
+
+fn command_of(packet: &[u8]) -> Parsed
+    ensures { λ r. ⌜ parsed r ≡ commandOf (now (packet .entry)) ⌝ }
+{
+    if packet::LONGEST < packet.len() {
+        return Parsed::Refused(refusal::TOO_LONG);
+    }
+    if packet.len() < 1 {
+        return Parsed::Refused(refusal::ENDS);
+    }
+    by_kind(number::byte(packet, 0), packet)
+}
+
+fn by_kind(kind: u8, p: &[u8]) -> Parsed
+    requires { ⌜ 1 ≤ length (now p) ⌝ }
+    ensures { λ r. ⌜ parsed r ≡ kindOf kind (now (p .entry)) ⌝ }
+{
+    match kind {
+        0x02 => parse_read(p),
+        0x04 => parse_write_memory(p),
+        0x05 => parse_read_memory(p),
+        0x06 => Parsed::Command(Commands::BulkLoadFilterData {
+            payload: rest_of(p, 1),
+        }),
+        0x07 => parse_unk07(p),
+        0x12 => Parsed::Command(Commands::BulkLoad {
+            payload: rest_of(p, 1),
+        }),
+        0x13 => parse_write(p),
+        0x14 => parse_read_floats(p),
+        0x17 => parse_set_mute(p),
+        0x19 => parse_bypass(p),
+        0x25 => parse_set_config(p),
+        0x31 => Parsed::Command(Commands::ReadHardwareId),
+        0x29 => parse_switch_mux(p),
+        0x30 => parse_biquad(p),
+        0x34 => parse_set_source(p),
+        0x39 => parse_fir_start(p),
+        0x3a => parse_fir_data(p),
+        0x3b => Parsed::Command(Commands::FirLoadEnd),
+        0x42 => parse_set_volume(p),
+        _ => Parsed::Command(Commands::Unknown {
+            cmd_id: kind,
+            payload: rest_of(p, 1),
+        }),
+    }
+}
+
+// The command, where the packet has the n bytes that it needs.
+fn needing(p: &[u8], n: usize, command: Commands) -> Parsed
+    ensures { λ r. ⌜ parsed r ≡ needed n (now (p .entry)) command ⌝ }
+{
+    if p.len() < n {
+        return Parsed::Refused(refusal::ENDS);
+    }
+    Parsed::Command(command)
+}
+
+// The place of what is left behind the first n bytes.
+fn rest_of(p: &[u8], n: usize) -> Place
+    ensures { λ r. ⌜ r ≡ rest n (now (p .entry)) ⌝ }
+{
+    if p.len() < n {
+        return Place { start: n, len: 0 };
+    }
+    Place {
+        start: n,
+        len: p.len() - n,
+    }
+}
+
+fn is_set(byte: u8) -> bool
+    ensures { λ r. ⌜ r ≡ isSet byte ⌝ }
+{
+    byte != 0
+}
+
+fn parse_read(p: &[u8]) -> Parsed
+    requires { ⌜ 1 ≤ length (now p) ⌝ }
+    ensures { λ r. ⌜ parsed r ≡ readOf (now (p .entry)) ⌝ }
+{
+    let wide = 3 <= p.len() - 1;
+    let k = Addr::width(wide);
+    let addr = Addr::at(p, 1, wide);
+    let len = number::byte(p, k + 1);
+    needing(p, k + 2, Commands::Read { addr, len })
+}
+
+fn parse_write_memory(p: &[u8]) -> Parsed
+    ensures { λ r. ⌜ parsed r ≡ writeMemoryOf (now (p .entry)) ⌝ }
+{
+    let addr = number::big16(p, 1);
+    let data = rest_of(p, 3);
+    needing(p, 3, Commands::WriteMemory { addr, data })
+}
+
+fn parse_read_memory(p: &[u8]) -> Parsed
+    ensures { λ r. ⌜ parsed r ≡ readMemoryOf (now (p .entry)) ⌝ }
+{
+    let addr = number::big16(p, 1);
+    let size = number::byte(p, 3);
+    needing(p, 4, Commands::ReadMemory { addr, size })
+}
+
+fn parse_unk07(p: &[u8]) -> Parsed
+    ensures { λ r. ⌜ parsed r ≡ unk07Of (now (p .entry)) ⌝ }
+{
+    let payload = number::byte(p, 1);
+    needing(p, 2, Commands::Unk07 { payload })
+}
+
+fn parse_write(p: &[u8]) -> Parsed
+    requires { ⌜ 1 ≤ length (now p) ⌝ }
+    ensures { λ r. ⌜ parsed r ≡ writeOf (now (p .entry)) ⌝ }
+{
+    let wide = 7 <= p.len() - 1;
+    let k = Addr::width(wide);
+    let addr = Addr::at(p, 1, wide);
+    let value = Value::at(p, rest_of(p, k + 1));
+    needing(p, k + 1, Commands::Write { addr, value })
+}
+
+fn parse_read_floats(p: &[u8]) -> Parsed
+    ensures { λ r. ⌜ parsed r ≡ readFloatsOf (now (p .entry)) ⌝ }
+{
+    let addr = number::big16(p, 1);
+    let len = number::byte(p, 3);
+    needing(p, 4, Commands::ReadFloats { addr, len })
+}
+
+fn parse_set_mute(p: &[u8]) -> Parsed
+    ensures { λ r. ⌜ parsed r ≡ setMuteOf (now (p .entry)) ⌝ }
+{
+    let value = is_set(number::byte(p, 1));
+    needing(p, 2, Commands::SetMute { value })
+}
+
+fn parse_bypass(p: &[u8]) -> Parsed
+    requires { ⌜ 1 ≤ length (now p) ⌝ }
+    ensures { λ r. ⌜ parsed r ≡ bypassOf (now (p .entry)) ⌝ }
+{
+    let wide = 2 < p.len() - 1;
+    let k = Addr::width(wide);
+    let addr = Addr::at(p, 1, wide);
+    let value = addr.extra_bit;
+    needing(p, k + 1, Commands::WriteBiquadBypass { addr, value })
+}
+
+fn parse_set_config(p: &[u8]) -> Parsed
+    ensures { λ r. ⌜ parsed r ≡ setConfigOf (now (p .entry)) ⌝ }
+{
+    let config = number::byte(p, 1);
+    let reset = is_set(number::byte(p, 2));
+    needing(p, 3, Commands::SetConfig { config, reset })
+}
+
+fn parse_switch_mux(p: &[u8]) -> Parsed
+    ensures { λ r. ⌜ parsed r ≡ switchMuxOf (now (p .entry)) ⌝ }
+{
+    let addr = Addr::at(p, 1, false);
+    let mux = number::byte(p, 3);
+    let slot = number::byte(p, 4);
+    needing(
+        p,
+        5,
+        Commands::SwitchMux {
+            addr,
+            max: mux % 128,
+            arg: 128 <= mux,
+            slot,
+        },
+    )
+}
+
+fn parse_biquad(p: &[u8]) -> Parsed
+    requires { ⌜ 1 ≤ length (now p) ⌝ }
+    ensures { λ r. ⌜ parsed r ≡ biquadOf (now (p .entry)) ⌝ }
+{
+    let wide = 24 < p.len() - 1;
+    let k = Addr::width(wide);
+    if p.len() < k + 3 {
+        return Parsed::Refused(refusal::ENDS);
+    }
+    if p.len() < k + 23 {
+        return Parsed::Refused(refusal::FEW_VALUES);
+    }
+    let addr = Addr::at(p, 1, wide);
+    Parsed::Command(Commands::WriteBiquad { addr })
+}
+
+fn parse_set_source(p: &[u8]) -> Parsed
+    ensures { λ r. ⌜ parsed r ≡ setSourceOf (now (p .entry)) ⌝ }
+{
+    let source = number::byte(p, 1);
+    needing(p, 2, Commands::SetSource { source })
+}
+
+fn parse_fir_start(p: &[u8]) -> Parsed
+    ensures { λ r. ⌜ parsed r ≡ firStartOf (now (p .entry)) ⌝ }
+{
+    let index = number::byte(p, 1);
+    needing(p, 2, Commands::FirLoadStart { index })
+}
+
+fn parse_fir_data(p: &[u8]) -> Parsed
+    ensures { λ r. ⌜ parsed r ≡ firDataOf (now (p .entry)) ⌝ }
+{
+    let index = number::byte(p, 1);
+    let count = rest_of(p, 3).len / 4;
+    needing(
+        p,
+        2,
+        Commands::FirLoadData {
+            index,
+            start: 2,
+            count,
+        },
+    )
+}
+
+fn parse_set_volume(p: &[u8]) -> Parsed
+    ensures { λ r. ⌜ parsed r ≡ setVolumeOf (now (p .entry)) ⌝ }
+{
+    let value = Gain::from_u8(number::byte(p, 1));
+    needing(p, 2, Commands::SetVolume { value })
+}
+
+// The five values of a 0x30 that is read, and the default beside any other packet.
+fn values_at(p: &[u8]) -> [Coefficient; 5]
+    ensures { λ r. ⌜ r ≡ valuesAt (now (p .entry)) ⌝ }
+{
+    if packet::LONGEST < p.len() {
+        return no_values();
+    }
+    if number::byte(p, 0) != 0x30 {
+        return no_values();
+    }
+    if p.len() < 1 {
+        return no_values();
+    }
+    let k = Addr::width(24 < p.len() - 1);
+    if p.len() < k + 23 {
+        return no_values();
+    }
+    five_from(k + 3)
+}
+
+fn no_values() -> [Coefficient; 5]
+    ensures { λ r. ⌜ r ≡ noValues ⌝ }
+{
+    let zero = Coefficient {
+        value: Value::Float(0.0),
+    };
+    [zero; 5]
+}
+
+fn five_from(start: usize) -> [Coefficient; 5]
+    requires { ⌜ start < 65536 ⌝ }
+    ensures { λ r. ⌜ r ≡ fiveFrom start ⌝ }
+{
+    [
+        unknown4(start),
+        unknown4(start + 4),
+        unknown4(start + 8),
+        unknown4(start + 12),
+        unknown4(start + 16),
+    ]
+}
+
+fn unknown4(start: usize) -> Coefficient
+    ensures { λ r. ⌜ r ≡ unknownAt start ⌝ }
+{
+    Coefficient {
+        value: Value::Unknown(Place { start, len: 4 }),
+    }
+}
