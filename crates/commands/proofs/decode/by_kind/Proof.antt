@@ -1,7 +1,7 @@
 -- Each arm is the reading of its kind; the last is reached by a byte of no kind.
 use mathlib.Core.Path.{refl}
 use Rattle.octets.specs.Choice.{ifEq}
-use Rattle.octets.proofs.Choosing.{other}
+use Rattle.octets.proofs.Choosing.{tests}
 use Rattle.commands.specs.Decode.{kindOf}
 use borrow.Author.Needs.{needs}
 use Rattle.commands.proofs.decode.by_kind.Statement.{statement}
@@ -85,26 +85,7 @@ returns-19 c = rw (c .before .match .keys19) (c .parse-set-volume .ensures)
 
 returns-20 : tie.Need-returns-20
 unfolding kindOf
-returns-20 c = let rest = c .before .match .rest in rw (c .rest-of3 .ensures)
-    (other _ _ _ _ _ (rest .0 .0 .0 .0 .0 .0 .0 .0 .0 .0 .0 .0 .0 .0 .0 .0 .0 .0 .1)
-    (other _ _ _ _ _ (rest .0 .0 .0 .0 .0 .0 .0 .0 .0 .0 .0 .0 .0 .0 .0 .0 .0 .1)
-    (other _ _ _ _ _ (rest .0 .0 .0 .0 .0 .0 .0 .0 .0 .0 .0 .0 .0 .0 .0 .0 .1)
-    (other _ _ _ _ _ (rest .0 .0 .0 .0 .0 .0 .0 .0 .0 .0 .0 .0 .0 .0 .0 .1)
-    (other _ _ _ _ _ (rest .0 .0 .0 .0 .0 .0 .0 .0 .0 .0 .0 .0 .0 .0 .1)
-    (other _ _ _ _ _ (rest .0 .0 .0 .0 .0 .0 .0 .0 .0 .0 .0 .0 .0 .1)
-    (other _ _ _ _ _ (rest .0 .0 .0 .0 .0 .0 .0 .0 .0 .0 .0 .0 .1)
-    (other _ _ _ _ _ (rest .0 .0 .0 .0 .0 .0 .0 .0 .0 .0 .0 .1)
-    (other _ _ _ _ _ (rest .0 .0 .0 .0 .0 .0 .0 .0 .0 .0 .1)
-    (other _ _ _ _ _ (rest .0 .0 .0 .0 .0 .0 .0 .0 .0 .1)
-    (other _ _ _ _ _ (rest .0 .0 .0 .0 .0 .0 .0 .0 .1)
-    (other _ _ _ _ _ (rest .0 .0 .0 .0 .0 .0 .0 .1)
-    (other _ _ _ _ _ (rest .0 .0 .0 .0 .0 .0 .1)
-    (other _ _ _ _ _ (rest .0 .0 .0 .0 .0 .1)
-    (other _ _ _ _ _ (rest .0 .0 .0 .0 .1)
-    (other _ _ _ _ _ (rest .0 .0 .0 .1)
-    (other _ _ _ _ _ (rest .0 .0 .1)
-    (other _ _ _ _ _ (rest .0 .1)
-    (other _ _ _ _ _ (rest .1) refl)))))))))))))))))))
+returns-20 c = let rest = c .before .match .rest in rw (c .rest-of3 .ensures) (search tests depth 30)
 
 pub by-kind-spec : {M : Type 1} → statement M
 by-kind-spec =
