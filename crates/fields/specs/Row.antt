@@ -1,15 +1,15 @@
 -- A packet is a row of fields: numbers, addresses, values, and parts of the bytes that the caller lends.
-use Prim.Native.Nat.{ℕ, zero, suc, _+_, _-_, _*_}
+use Prim.Native.Nat.{ℕ, zero, suc, _+_, _-_}
 use mathlib.Core.Path.{_≡_}
 use mathlib.Core.Bool.{Bool, true, false}
 use mathlib.Core.List.{List, [], _∷_, _++_}
 use lib.ListN.{length}
 use Rattle.octets.specs.Refusals.{addressLength, outside, tooLong}
-use Rattle.octets.specs.Outcome.{Outcome, accepted, refused}
+use Rattle.octets.specs.Outcome.{Outcome, accepted, refused, onAccepted}
 use Rattle.octets.specs.Choice.{pick, ifLt}
 use Rattle.octets.specs.Over.{settle}
 use Rattle.octets.specs.Number.{bigBytes}
-use Rattle.octets.specs.Place.{placeAt, partOf, outsideOf}
+use Rattle.octets.specs.Place.{floatsAt, partOf, outsideOf}
 use Rattle.packet.specs.Frame.{frameOf}
 use Rattle.fields.specs.Addr.{wrongLength, addrBytes}
 use Rattle.fields.specs.Value.{valueBytes, valueOutside}
@@ -25,7 +25,7 @@ bytesOf p (Word n) = bigBytes 2 n
 bytesOf p (Address a) = addrBytes a
 bytesOf p (Coded v) = valueBytes v p
 bytesOf p (Payload place) = partOf p place
-bytesOf p (Floats start count) = partOf p (placeAt start (4 * count))
+bytesOf p (Floats start count) = partOf p (floatsAt start count)
 
 unfoldable pub packetOf : List ℕ → List Field → List ℕ
 packetOf p [] = []
@@ -49,7 +49,7 @@ misplaced have (Word n) = false
 misplaced have (Address a) = false
 misplaced have (Coded v) = valueOutside v have
 misplaced have (Payload place) = outsideOf place have
-misplaced have (Floats start count) = outsideOf (placeAt start (4 * count)) have
+misplaced have (Floats start count) = outsideOf (floatsAt start count) have
 
 unfoldable pub anyOf : (Field → Bool) → List Field → Bool
 anyOf test [] = false
@@ -73,8 +73,7 @@ encodedOf p row =
 
 -- how many bytes that takes
 abbrev pub counted : Outcome (List ℕ) → Outcome ℕ
-counted (accepted bytes) = accepted (length bytes)
-counted (refused k) = refused k
+counted = onAccepted length
 
 abbrev pub writeInto : List ℕ → List Field → List ℕ → Outcome ℕ × List ℕ
 writeInto p row out = settle (encodedOf p row) (λ bytes. bytes) out

@@ -7,7 +7,7 @@ ghost use Prim.Native.Nat.{_*_, _≤_, min};
 ghost use lib.ListN.{length};
 ghost use Rattle.octets.specs.Outcome.{written};
 ghost use Rattle.octets.specs.Over.{over, into};
-ghost use Rattle.octets.specs.Place.{placeAt, partOf, outsideOf};
+ghost use Rattle.octets.specs.Place.{floatsAt, partOf, outsideOf};
 ghost use Rattle.fields.specs.Value.{valueBytes, valueOutside};
 ghost use Rattle.fields.specs.Row.{bytesOf, packetOf, misaddressed, misplaced, anyOf, Sound, AllSound, encodedOf, counted, writeInto, frameInto, fieldsOf, padded};
 use crate::addr::Addr;
@@ -57,22 +57,8 @@ fn is_misplaced(field: Field, have: usize) -> bool
         Field::Address(_) => false,
         Field::Coded(value) => value.is_outside(have),
         Field::Payload(place) => octets::outside(place, have),
-        Field::Floats { start, count } => floats_outside(start, count, have),
+        Field::Floats { start, count } => octets::floats_outside(start, count, have),
     }
-}
-
-// Whether count floats from start run past so many bytes: divided, since four times a count can
-// overflow.
-fn floats_outside(start: usize, count: usize, have: usize) -> bool
-    ensures { λ r. ⌜ r ≡ outsideOf (placeAt start (4 * count)) have ⌝ }
-{
-    if have < start {
-        return true;
-    }
-    if (have - start) / 4 < count {
-        return true;
-    }
-    false
 }
 
 fn any_misaddressed(row: [Cell; 8]) -> bool
@@ -144,12 +130,12 @@ fn capped(n: usize) -> usize
 }
 
 fn floats_len(count: usize) -> usize
-    ensures { λ r. ⌜ r ≡ min 255 (4 * count) ⌝ }
+    ensures { λ r. ⌜ r ≡ min 255 (count * 4) ⌝ }
 {
     if 63 < count {
         return 255;
     }
-    4 * count
+    count * 4
 }
 
 // The same of a whole row.
@@ -202,10 +188,10 @@ fn put_field(field: Field, payload: &[u8], out: &mut [u8]) -> Written
 }
 
 fn put_floats(payload: &[u8], start: usize, count: usize, out: &mut [u8]) -> Written
-    requires { ⌜ outsideOf (placeAt start (4 * count)) (length (now payload)) ≡ false ⌝ }
-    ensures { λ r. ⌜ (written r, now (out .exit)) ≡ into (partOf (now (payload .entry)) (placeAt start (4 * count))) (now (out .entry)) ⌝ }
+    requires { ⌜ outsideOf (floatsAt start count) (length (now payload)) ≡ false ⌝ }
+    ensures { λ r. ⌜ (written r, now (out .exit)) ≡ into (partOf (now (payload .entry)) (floatsAt start count)) (now (out .entry)) ⌝ }
 {
-    let len = 4 * count;
+    let len = count * 4;
     octets::put(octets::part(payload, Place { start, len }), out)
 }
 

@@ -53,16 +53,32 @@ module _ {A : Type 0} (P : A → Type 0) (a b : ℕ) (x y : A) where
       go (yes h) = subst P (same a b x y x h refl) (f h)
       go (no h) = subst P (other a b x y y h refl) (g h)
 
--- a refusal was passed by
-never : {A : Type 0} {k : ℕ} {v : A} {B : Type 0} → refused k ≡ accepted v → B
-never e = let z : _≡_ {A = ℕ} 0 1 = cc in absurd (omega arith)
+-- through a function
+module _ {A B : Type 0} (f : A → B) (a b : ℕ) (x y : A) where
+  pub if-of : f (ifLt a b x y) ≡ ifLt a b (f x) (f y)
+  if-of = either-lt (λ z. f z ≡ ifLt a b (f x) (f y)) a b x y (λ h. below _ _ _ _ _ h refl) (λ h. above _ _ _ _ _ h refl)
+
+-- an answer that is not the one given at a test tells how the test came out
+module _ {A : Type 0} (a b : ℕ) (x y z : A) (never : x ≡ z → ⊥) where
+  pub passed : ifLt a b x y ≡ z → (b ≤ a) × (y ≡ z)
+  passed = either-lt (λ r. r ≡ z → (b ≤ a) × (y ≡ z)) a b x y (λ h e. absurd (never e)) (λ h e. (h, e))
+
+  pub missed : ifEq a b x y ≡ z → (a ≡ b → ⊥) × (y ≡ z)
+  missed = either-eq (λ r. r ≡ z → (a ≡ b → ⊥) × (y ≡ z)) a b x y (λ h e. absurd (never e)) (λ h e. (h, e))
+
+  pub matched : ifEq a b y x ≡ z → (a ≡ b) × (y ≡ z)
+  matched = either-eq (λ r. r ≡ z → (a ≡ b) × (y ≡ z)) a b y x (λ h e. (h, e)) (λ h e. absurd (never e))
+
+-- so does an accepted one, where a test refuses
+pub refused-accepted : {A : Type 0} {k : ℕ} {v : A} → refused k ≡ accepted v → ⊥
+refused-accepted e = let z : _≡_ {A = ℕ} 0 1 = cc in omega arith
 
 module _ {A : Type 0} {v : A} (a b k : ℕ) (y : Outcome A) where
   pub was-above : ifLt a b (refused k) y ≡ accepted v → (b ≤ a) × (y ≡ accepted v)
-  was-above = either-lt (λ z. z ≡ accepted v → (b ≤ a) × (y ≡ accepted v)) a b (refused k) y (λ h e. never e) (λ h e. (h, e))
+  was-above = passed a b (refused k) y (accepted v) refused-accepted
 
   pub was-other : ifEq a b (refused k) y ≡ accepted v → (a ≡ b → ⊥) × (y ≡ accepted v)
-  was-other = either-eq (λ z. z ≡ accepted v → (a ≡ b → ⊥) × (y ≡ accepted v)) a b (refused k) y (λ h e. never e) (λ h e. (h, e))
+  was-other = missed a b (refused k) y (accepted v) refused-accepted
 
   pub was-same : ifEq a b y (refused k) ≡ accepted v → (a ≡ b) × (y ≡ accepted v)
-  was-same = either-eq (λ z. z ≡ accepted v → (a ≡ b) × (y ≡ accepted v)) a b y (refused k) (λ h e. (h, e)) (λ h e. never e)
+  was-same = matched a b (refused k) y (accepted v) refused-accepted

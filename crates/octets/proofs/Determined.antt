@@ -10,6 +10,7 @@ use Rattle.octets.specs.declared.Written.the-variants.{Bytes, Refused}
 use Rattle.octets.proofs.Agree.{Fixes, agree, both}
 use Rattle.octets.proofs.put.Reads as put
 use Rattle.octets.proofs.outside.Reads as outside
+use Rattle.octets.proofs.floats_outside.Reads as floats-outside
 use Rattle.octets.proofs.part.Reads as part
 use Rattle.octets.proofs.number.byte.Reads as byte
 use Rattle.octets.proofs.number.big16.Reads as big16
@@ -34,6 +35,9 @@ put-fixed κs args a b x y p q = both written written-once (agree p q)
 
 pub outside-fixed : Fixes Bool outside.Post (λ κs answer left. answer)
 outside-fixed κs args a b x y p q = agree p q
+
+pub floats-outside-fixed : Fixes Bool floats-outside.Post (λ κs answer left. answer)
+floats-outside-fixed κs args a b x y p q = agree p q
 
 pub part-fixed : Fixes (List ℕ) part.Post (λ κs answer left. now answer)
 part-fixed κs args a b x y p q = agree p q

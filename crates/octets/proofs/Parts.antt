@@ -1,14 +1,17 @@
 -- Laws of a place's bytes: past the end there is nothing, and a place that runs past it has what there is up to it.
-use mathlib.Core.Path.{_≡_, sym, _∙_}
+use mathlib.Core.Path.{_≡_, sym, ap, _∙_}
 use mathlib.Core.Bool.{true, false}
-use Prim.Native.Nat.{ℕ, _+_, _-_, _≤_, _<_}
+use mathlib.Core.Logic.{_⊎_, inl, inr}
+use Prim.Native.Nat.{ℕ, _+_, _-_, _≤_, _<_, min}
 use mathlib.Core.List.{List, []}
 use native.Mathlib.Omega.{arith}
 use lib.ListN.{length, take, drop, length-take, length-drop, drop-of-length-le}
-use lib.Seq.{take-all, take-nil}
-use borrow.Author.Tests.{lt-ltb, le-ltb, ltb-false}
+use lib.Seq.{take-all, take-nil, take-take, take-add, drop-drop, drop-at, length-take-le, getD-take, getD-drop}
+use borrow.Author.Tests.{lt-ltb, le-ltb, ltb-false, ltb-true}
 use Rattle.octets.specs.declared.Place.{Place}
-use Rattle.octets.specs.Place.{partOf, outsideOf}
+use Rattle.octets.specs.Place.{placeAt, partOf, outsideOf}
+use Rattle.octets.specs.Number.{at}
+use Rattle.octets.proofs.Choosing.{lt-or-le}
 
 module _ (l : List ℕ) (p : Place) where
   pub part-none : length l ≤ p .start → [] ≡ partOf l p
@@ -30,6 +33,33 @@ module _ (l : List ℕ) (p : Place) where
   unfolding partOf
   length-part h = simp (length-take, length-drop) (omega arith)
 
+  -- a shorter place has the first of its bytes
+  pub part-short : (k : ℕ) → partOf l (placeAt (p .start) (min k (p .len))) ≡ take k (partOf l p)
+  unfolding partOf
+  part-short k = go (lt-or-le k (p .len))
+    where
+      d : List ℕ
+      d = drop (p .start) l
+
+      go : (k < p .len) ⊎ (p .len ≤ k) → take (min k (p .len)) d ≡ take k (take (p .len) d)
+      go (inl h) = let e : min k (p .len) ≡ k = omega arith in rw e (sym (take-take k (p .len) d (omega arith)))
+      go (inr h) = let e : min k (p .len) ≡ p .len = omega arith in rw e (sym (take-all k (take (p .len) d) (omega (arith, length-take (p .len) d))))
+
+  pub at-part : (i : ℕ) → i < p .len → at (partOf l p) i ≡ at l (p .start + i)
+  unfolding partOf
+  at-part i h = rw (getD-take (p .len) (drop (p .start) l) i 0 h, getD-drop)
+
+-- a part of a part
+pub part-part : (l : List ℕ) (s n i k : ℕ) → s + n ≤ length l → i + k ≤ n → partOf l (placeAt (s + i) k) ≡ partOf (partOf l (placeAt s n)) (placeAt i k)
+unfolding partOf
+part-part l s n i k h g =
+    let d : List ℕ = drop s l in
+    let long : length d ≡ length l - s = length-drop s l in
+    let e : n ≡ i + (n - i) = omega arith in
+    let cut : drop i (take n d) ≡ take (n - i) (drop i d) =
+    ap (λ (m : ℕ). drop i (take m d)) e ∙ rw (take-add i (n - i) d) (drop-at (take i d) (take (n - i) (drop i d)) i (length-take-le i d (omega arith))) in
+    rw (cut, take-take k (n - i) (drop i d) (omega arith), drop-drop i s l)
+
 module _ (p : Place) (have : ℕ) where
   pub is-inside : p .start + p .len ≤ have → false ≡ outsideOf p have
   unfolding outsideOf
@@ -42,3 +72,7 @@ module _ (p : Place) (have : ℕ) where
   pub was-inside : outsideOf p have ≡ false → p .start + p .len ≤ have
   unfolding outsideOf
   was-inside e = ltb-false _ _ e
+
+  pub was-outside : outsideOf p have ≡ true → have < p .start + p .len
+  unfolding outsideOf
+  was-outside e = ltb-true _ _ e

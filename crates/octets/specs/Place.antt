@@ -1,5 +1,5 @@
 -- "Bytes, Vec and BytesMut: a place and length in a lent packet"
-use Prim.Native.Nat.{ℕ, _+_}
+use Prim.Native.Nat.{ℕ, _+_, _*_}
 use mathlib.Core.Bool.{Bool}
 use mathlib.Core.List.{List}
 use lib.Dec.{ltb}
@@ -8,6 +8,10 @@ use Rattle.octets.specs.declared.Place.{Place}
 
 abbrev pub placeAt : ℕ → ℕ → Place
 placeAt start len = record { start = start; len = len }
+
+-- so many floats, of four bytes each
+abbrev pub floatsAt : ℕ → ℕ → Place
+floatsAt start count = placeAt start (count * 4)
 
 -- the bytes at a place
 unfoldable pub partOf : List ℕ → Place → List ℕ

@@ -4,7 +4,7 @@ ghost use mathlib.Core.Path.{_≡_};
 ghost use lib.ListN.{length};
 ghost use Rattle.octets.specs.Outcome.{written};
 ghost use Rattle.octets.specs.Over.{into};
-ghost use Rattle.octets.specs.Place.{partOf, outsideOf};
+ghost use Rattle.octets.specs.Place.{floatsAt, partOf, outsideOf};
 
 pub mod number;
 pub mod refusal;
@@ -44,6 +44,20 @@ pub fn outside(place: Place, have: usize) -> bool
         return true;
     }
     if have - place.start < place.len {
+        return true;
+    }
+    false
+}
+
+// Whether count floats from start run past so many bytes: divided, since four times a count can
+// overflow.
+pub fn floats_outside(start: usize, count: usize, have: usize) -> bool
+    ensures { λ r. ⌜ r ≡ outsideOf (floatsAt start count) have ⌝ }
+{
+    if have < start {
+        return true;
+    }
+    if (have - start) / 4 < count {
         return true;
     }
     false

@@ -1,0 +1,3 @@
+pub mod Eeprom
+pub mod Kind
+pub mod Source

@@ -1,0 +1,7 @@
+pub mod Found
+pub mod Cut
+pub mod Parts
+pub mod Joined
+pub mod Elements
+pub mod Across
+pub mod Determined

@@ -1,0 +1,27 @@
+-- Views, as document 01 has them under "Commands and responses (commands.rs)".
+use Prim.Native.Nat.{ℕ, _+_}
+use mathlib.Core.List.{List}
+use lib.ListN.{length}
+use Rattle.octets.specs.Choice.{ifLt}
+use Rattle.octets.specs.Place.{floatsAt}
+use Rattle.octets.specs.declared.Place.{Place}
+use Rattle.views.specs.declared.memory.MemoryView.{MemoryView}
+use Rattle.views.specs.declared.floats.FloatView.{FloatView}
+
+-- what the paper says of either kind: "base", "view length", and "a view's place" in "its bytes"
+pub record View : Type 0 where
+  pub base : ℕ
+  pub len : ℕ
+  pub place : Place
+
+-- a memory view's length counts its bytes
+abbrev pub memory : MemoryView → View
+memory v = record { base = v .base; len = v .data .len; place = v .data }
+
+-- and a float view's its floats, of four bytes each
+abbrev pub floats : FloatView → View
+floats v = record { base = v .base; len = v .count; place = floatsAt (v .start) (v .count) }
+
+-- x where "a view's place outside its bytes", else y
+abbrev pub ifOutside : {A : Type 0} → View → List ℕ → A → A → A
+ifOutside v bytes x y = ifLt (length bytes) (v .place .start + v .place .len) x y

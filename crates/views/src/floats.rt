@@ -1,0 +1,102 @@
+// Views of floats. A float stays bits, so that a NaN keeps its payload.
+ghost use mathlib.Core.Path.{_≡_};
+ghost use Prim.Native.Nat.{_*_, _≤_};
+ghost use Rattle.octets.specs.Outcome.{written, onAccepted};
+ghost use Rattle.octets.specs.Place.{outsideOf};
+ghost use Rattle.views.specs.View.{floats};
+ghost use Rattle.views.specs.Reading.{bits, bitsAt};
+ghost use Rattle.views.specs.Joining.{joinedFloats, floatsFrom, floatsJoin};
+use crate::Part;
+use crate::join;
+use crate::view_part;
+use octets::Place;
+use octets::Written;
+use octets::number;
+use octets::refusal;
+
+// As many floats as count says, from start on, of four little-endian bytes each.
+pub struct FloatView {
+    pub base: u16,
+    pub start: usize,
+    pub count: usize,
+}
+
+pub enum FloatBits {
+    Bits(u32),
+    Refused(u8),
+}
+
+pub enum JoinedFloats {
+    View(FloatView),
+    Refused(u8),
+}
+
+// The joined bytes, which stand at the start of out, as a view.
+fn joined_floats(base: u16, answer: Written) -> JoinedFloats
+    ensures { λ r. ⌜ joinedFloats r ≡ onAccepted (floatsFrom base) (written answer) ⌝ }
+{
+    match answer {
+        Written::Bytes(len) => JoinedFloats::View(FloatView {
+            base,
+            start: 0,
+            count: len / 4,
+        }),
+        Written::Refused(k) => JoinedFloats::Refused(k),
+    }
+}
+
+impl FloatView {
+    fn is_outside(self, have: usize) -> bool
+        ensures { λ r. ⌜ r ≡ outsideOf (floats self .place) have ⌝ }
+    {
+        octets::floats_outside(self.start, self.count, have)
+    }
+
+    // Where its bytes are.
+    fn place(self) -> Place
+        requires { ⌜ self .count * 4 ≤ 18446744073709551615 ⌝ }
+        ensures { λ r. ⌜ r ≡ floats self .place ⌝ }
+    {
+        Place {
+            start: self.start,
+            len: self.count * 4,
+        }
+    }
+
+    // The pattern of the float at addr.
+    pub fn get(self, bytes: &[u8], addr: u16) -> FloatBits
+        ensures { λ r. ⌜ bits r ≡ bitsAt self (now (bytes .entry)) addr ⌝ }
+    {
+        if self.is_outside(bytes.len()) {
+            return FloatBits::Refused(refusal::OUTSIDE);
+        }
+        match view_part(self.base, self.count, addr, 1) {
+            Part::At(place) => {
+                FloatBits::Bits(number::little32(bytes, self.start + place.start * 4))
+            }
+            Part::Outside => FloatBits::Refused(refusal::OUTSIDE),
+        }
+    }
+
+    // Writes this view's bytes and the other's, which adjoins, over the start of out.
+    pub fn extend_with(
+        self,
+        bytes: &[u8],
+        other: FloatView,
+        other_bytes: &[u8],
+        out: &mut [u8],
+    ) -> JoinedFloats
+        ensures { λ r. ⌜ (joinedFloats r, now (out .exit)) ≡ floatsJoin self (now (bytes .entry)) other (now («other_bytes» .entry)) (now (out .entry)) ⌝ }
+    {
+        if self.is_outside(bytes.len()) {
+            return JoinedFloats::Refused(refusal::OUTSIDE);
+        }
+        if other.is_outside(other_bytes.len()) {
+            return JoinedFloats::Refused(refusal::OUTSIDE);
+        }
+        let first = octets::part(bytes, self.place());
+        let second = octets::part(other_bytes, other.place());
+        let answer = join(self.base, self.count, other.base, first, second, out);
+        joined_floats(self.base, answer)
+    }
+}

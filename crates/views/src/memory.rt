@@ -1,0 +1,134 @@
+// Views of bytes.
+ghost use mathlib.Core.Path.{_≡_};
+ghost use Prim.Native.Nat.{_-_, min};
+ghost use Rattle.octets.specs.Outcome.{written, onAccepted};
+ghost use Rattle.views.specs.Reading.{part, byte, word, partAt, byteAt, wordAt};
+ghost use Rattle.views.specs.Joining.{joinedMemory, memoryFrom, memoryJoin};
+use crate::Part;
+use crate::TOP;
+use crate::join;
+use crate::view_part;
+use octets::Place;
+use octets::Written;
+use octets::number;
+use octets::refusal;
+
+pub struct MemoryView {
+    pub base: u16,
+    pub data: Place,
+}
+
+pub enum Byte {
+    Is(u8),
+    Outside,
+}
+
+pub enum Word {
+    Is(u16),
+    Outside,
+}
+
+pub enum JoinedMemory {
+    View(MemoryView),
+    Refused(u8),
+}
+
+// How many of more bytes are kept behind len bytes from base on: those below 65,535.
+fn kept(base: u16, len: usize, more: usize) -> usize
+    ensures { λ r. ⌜ r ≡ min (65535 - base - len) more ⌝ }
+{
+    let room = TOP - base as usize;
+    if room < len {
+        return 0;
+    }
+    if room - len < more {
+        return room - len;
+    }
+    more
+}
+
+// The joined bytes, which stand at the start of out, as a view.
+fn joined_memory(base: u16, answer: Written) -> JoinedMemory
+    ensures { λ r. ⌜ joinedMemory r ≡ onAccepted (memoryFrom base) (written answer) ⌝ }
+{
+    match answer {
+        Written::Bytes(len) => JoinedMemory::View(MemoryView {
+            base,
+            data: Place { start: 0, len },
+        }),
+        Written::Refused(k) => JoinedMemory::Refused(k),
+    }
+}
+
+impl MemoryView {
+    // The place of len bytes from addr on, in the caller's bytes.
+    pub fn read_at(self, bytes: &[u8], addr: u16, len: u8) -> Part
+        ensures { λ r. ⌜ part r ≡ partAt self (now (bytes .entry)) addr len ⌝ }
+    {
+        let data = self.data;
+        if octets::outside(data, bytes.len()) {
+            return Part::Outside;
+        }
+        match view_part(self.base, data.len, addr, len) {
+            Part::At(place) => {
+                let start = data.start + place.start;
+                Part::At(Place {
+                    start,
+                    len: place.len,
+                })
+            }
+            Part::Outside => Part::Outside,
+        }
+    }
+
+    pub fn read_u8(self, bytes: &[u8], addr: u16) -> Byte
+        ensures { λ r. ⌜ byte r ≡ byteAt self (now (bytes .entry)) addr ⌝ }
+    {
+        match self.read_at(bytes, addr, 1) {
+            Part::At(place) => Byte::Is(number::byte(bytes, place.start)),
+            Part::Outside => Byte::Outside,
+        }
+    }
+
+    // The most significant byte first.
+    pub fn read_u16(self, bytes: &[u8], addr: u16) -> Word
+        ensures { λ r. ⌜ word r ≡ wordAt self (now (bytes .entry)) addr ⌝ }
+    {
+        match self.read_at(bytes, addr, 2) {
+            Part::At(place) => Word::Is(number::big16(bytes, place.start)),
+            Part::Outside => Word::Outside,
+        }
+    }
+
+    // Writes this view's bytes and the other's, which adjoins, over the start of out, so far as they
+    // stand below 65,535: the Rust drops the rest.
+    pub fn extend_with(
+        self,
+        bytes: &[u8],
+        other: MemoryView,
+        other_bytes: &[u8],
+        out: &mut [u8],
+    ) -> JoinedMemory
+        ensures { λ r. ⌜ (joinedMemory r, now (out .exit)) ≡ memoryJoin self (now (bytes .entry)) other (now («other_bytes» .entry)) (now (out .entry)) ⌝ }
+    {
+        let data = self.data;
+        let rest = other.data;
+        if octets::outside(data, bytes.len()) {
+            return JoinedMemory::Refused(refusal::OUTSIDE);
+        }
+        if octets::outside(rest, other_bytes.len()) {
+            return JoinedMemory::Refused(refusal::OUTSIDE);
+        }
+        let first = octets::part(bytes, data);
+        let more = kept(self.base, data.len, rest.len);
+        let second = octets::part(
+            other_bytes,
+            Place {
+                start: rest.start,
+                len: more,
+            },
+        );
+        let answer = join(self.base, data.len, other.base, first, second, out);
+        joined_memory(self.base, answer)
+    }
+}
