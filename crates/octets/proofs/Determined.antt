@@ -5,12 +5,14 @@ use mathlib.Core.Bool.{Bool}
 use mathlib.Core.List.{List}
 use denote.Ref.{now}
 use Rattle.octets.specs.Outcome.{written}
+use Rattle.octets.specs.declared.Place.{Place}
 use Rattle.octets.specs.declared.Written.{Written}
 use Rattle.octets.specs.declared.Written.the-variants.{Bytes, Refused}
 use Rattle.octets.proofs.Agree.{Fixes, agree, both}
 use Rattle.octets.proofs.put.Reads as put
 use Rattle.octets.proofs.outside.Reads as outside
 use Rattle.octets.proofs.floats_outside.Reads as floats-outside
+use Rattle.octets.proofs.rest_of.Reads as rest-of
 use Rattle.octets.proofs.part.Reads as part
 use Rattle.octets.proofs.number.byte.Reads as byte
 use Rattle.octets.proofs.number.big16.Reads as big16
@@ -38,6 +40,9 @@ outside-fixed κs args a b x y p q = agree p q
 
 pub floats-outside-fixed : Fixes Bool floats-outside.Post (λ κs answer left. answer)
 floats-outside-fixed κs args a b x y p q = agree p q
+
+pub rest-of-fixed : Fixes Place rest-of.Post (λ κs answer left. answer)
+rest-of-fixed κs args a b x y p q = agree p q
 
 pub part-fixed : Fixes (List ℕ) part.Post (λ κs answer left. now answer)
 part-fixed κs args a b x y p q = agree p q

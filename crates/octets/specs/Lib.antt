@@ -4,3 +4,4 @@ pub mod Choice
 pub mod Over
 pub mod Number
 pub mod Place
+pub mod Reading

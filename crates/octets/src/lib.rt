@@ -5,6 +5,7 @@ ghost use lib.ListN.{length};
 ghost use Rattle.octets.specs.Outcome.{written};
 ghost use Rattle.octets.specs.Over.{into};
 ghost use Rattle.octets.specs.Place.{floatsAt, partOf, outsideOf};
+ghost use Rattle.octets.specs.Reading.{rest};
 
 pub mod number;
 pub mod refusal;
@@ -61,6 +62,19 @@ pub fn floats_outside(start: usize, count: usize, have: usize) -> bool
         return true;
     }
     false
+}
+
+// The place of what is left behind the first n bytes.
+pub fn rest_of(bytes: &[u8], n: usize) -> Place
+    ensures { λ r. ⌜ r ≡ rest n (now (bytes .entry)) ⌝ }
+{
+    if bytes.len() < n {
+        return Place { start: n, len: 0 };
+    }
+    Place {
+        start: n,
+        len: bytes.len() - n,
+    }
 }
 
 // The bytes at a place, so far as there are any.

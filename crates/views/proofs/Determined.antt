@@ -5,7 +5,7 @@ use mathlib.Core.List.{List}
 use denote.Ref.{now}
 use Rattle.octets.proofs.Agree.{Fixes, agree, both}
 use Rattle.views.specs.Reading.{part, byte, word, bits}
-use Rattle.views.specs.Joining.{joinedMemory, joinedFloats}
+use Rattle.views.specs.View.{memoryAnswer, floatsAnswer}
 use Rattle.views.specs.declared.Part.{Part}
 use Rattle.views.specs.declared.Part.the-variants.{At, Outside as NoPart}
 use Rattle.views.specs.declared.memory.Byte.{Byte}
@@ -14,10 +14,10 @@ use Rattle.views.specs.declared.memory.Word.{Word}
 use Rattle.views.specs.declared.memory.Word.the-variants.{Is as WordIs, Outside as NoWord}
 use Rattle.views.specs.declared.floats.FloatBits.{FloatBits}
 use Rattle.views.specs.declared.floats.FloatBits.the-variants.{Bits, Refused as NoBits}
-use Rattle.views.specs.declared.memory.JoinedMemory.{JoinedMemory}
-use Rattle.views.specs.declared.memory.JoinedMemory.the-variants.{View as Memory, Refused as NoMemory}
-use Rattle.views.specs.declared.floats.JoinedFloats.{JoinedFloats}
-use Rattle.views.specs.declared.floats.JoinedFloats.the-variants.{View as Floats, Refused as NoFloats}
+use Rattle.views.specs.declared.memory.Answer.{Answer as MemoryAnswer}
+use Rattle.views.specs.declared.memory.Answer.the-variants.{View as Memory, Refused as NoMemory}
+use Rattle.views.specs.declared.floats.Answer.{Answer as FloatsAnswer}
+use Rattle.views.specs.declared.floats.Answer.the-variants.{View as Floats, Refused as NoFloats}
 use Rattle.views.proofs.memory.MemoryView.read_at.Reads as read-at
 use Rattle.views.proofs.memory.MemoryView.read_u8.Reads as read-u8
 use Rattle.views.proofs.memory.MemoryView.read_u16.Reads as read-u16
@@ -50,13 +50,13 @@ bits-once (Bits m) (NoBits k) e = cc
 bits-once (NoBits k) (Bits n) e = cc
 bits-once (NoBits j) (NoBits k) e = cc
 
-pub memory-once : (a b : JoinedMemory) → joinedMemory a ≡ joinedMemory b → a ≡ b
+pub memory-once : (a b : MemoryAnswer) → memoryAnswer a ≡ memoryAnswer b → a ≡ b
 memory-once (Memory v) (Memory w) e = cc
 memory-once (Memory v) (NoMemory k) e = cc
 memory-once (NoMemory k) (Memory w) e = cc
 memory-once (NoMemory j) (NoMemory k) e = cc
 
-pub floats-once : (a b : JoinedFloats) → joinedFloats a ≡ joinedFloats b → a ≡ b
+pub floats-once : (a b : FloatsAnswer) → floatsAnswer a ≡ floatsAnswer b → a ≡ b
 floats-once (Floats v) (Floats w) e = cc
 floats-once (Floats v) (NoFloats k) e = cc
 floats-once (NoFloats k) (Floats w) e = cc
@@ -74,8 +74,8 @@ read-u16-fixed κs args a b x y p q = word-once a b (agree p q)
 pub get-fixed : Fixes FloatBits get.Post (λ κs answer left. answer)
 get-fixed κs args a b x y p q = bits-once a b (agree p q)
 
-pub memory-extend-fixed : Fixes (JoinedMemory × List ℕ) memory-extend.Post (λ κs answer left. (answer, now (left .1 .1 .1 .1 .0)))
-memory-extend-fixed κs args a b x y p q = both joinedMemory memory-once (agree p q)
+pub memory-extend-fixed : Fixes (MemoryAnswer × List ℕ) memory-extend.Post (λ κs answer left. (answer, now (left .1 .1 .1 .1 .0)))
+memory-extend-fixed κs args a b x y p q = both memoryAnswer memory-once (agree p q)
 
-pub floats-extend-fixed : Fixes (JoinedFloats × List ℕ) floats-extend.Post (λ κs answer left. (answer, now (left .1 .1 .1 .1 .0)))
-floats-extend-fixed κs args a b x y p q = both joinedFloats floats-once (agree p q)
+pub floats-extend-fixed : Fixes (FloatsAnswer × List ℕ) floats-extend.Post (λ κs answer left. (answer, now (left .1 .1 .1 .1 .0)))
+floats-extend-fixed κs args a b x y p q = both floatsAnswer floats-once (agree p q)

@@ -10,19 +10,6 @@ use Rattle.octets.specs.Place.{placeAt, partOf}
 use Rattle.views.specs.View.{View, memory, floats, ifOutside}
 use Rattle.views.specs.declared.memory.MemoryView.{MemoryView}
 use Rattle.views.specs.declared.floats.FloatView.{FloatView}
-use Rattle.views.specs.declared.memory.JoinedMemory.{JoinedMemory}
-use Rattle.views.specs.declared.memory.JoinedMemory.the-variants.{View as MemoryJoined, Refused as MemoryRefused}
-use Rattle.views.specs.declared.floats.JoinedFloats.{JoinedFloats}
-use Rattle.views.specs.declared.floats.JoinedFloats.the-variants.{View as FloatsJoined, Refused as FloatsRefused}
-
--- the joined view, or the paper's number
-abbrev pub joinedMemory : JoinedMemory → Outcome MemoryView
-joinedMemory (MemoryJoined v) = accepted v
-joinedMemory (MemoryRefused k) = refused k
-
-abbrev pub joinedFloats : JoinedFloats → Outcome FloatView
-joinedFloats (FloatsJoined v) = accepted v
-joinedFloats (FloatsRefused k) = refused k
 
 -- "first joined view has base + length over 65,535", "joined views do not adjoin", "output shorter than the whole result"
 abbrev pub adjoined : ℕ → ℕ → ℕ → List ℕ → List ℕ → Outcome ℕ × List ℕ

@@ -2,11 +2,16 @@
 use Prim.Native.Nat.{ℕ, _+_}
 use mathlib.Core.List.{List}
 use lib.ListN.{length}
+use Rattle.octets.specs.Outcome.{Outcome, accepted, refused}
 use Rattle.octets.specs.Choice.{ifLt}
 use Rattle.octets.specs.Place.{floatsAt}
 use Rattle.octets.specs.declared.Place.{Place}
 use Rattle.views.specs.declared.memory.MemoryView.{MemoryView}
 use Rattle.views.specs.declared.floats.FloatView.{FloatView}
+use Rattle.views.specs.declared.memory.Answer.{Answer as MemoryAnswer}
+use Rattle.views.specs.declared.memory.Answer.the-variants.{View as MemoryIs, Refused as MemoryRefused}
+use Rattle.views.specs.declared.floats.Answer.{Answer as FloatsAnswer}
+use Rattle.views.specs.declared.floats.Answer.the-variants.{View as FloatsIs, Refused as FloatsRefused}
 
 -- what the paper says of either kind: "base", "view length", and "a view's place" in "its bytes"
 pub record View : Type 0 where
@@ -25,3 +30,12 @@ floats v = record { base = v .base; len = v .count; place = floatsAt (v .start) 
 -- x where "a view's place outside its bytes", else y
 abbrev pub ifOutside : {A : Type 0} → View → List ℕ → A → A → A
 ifOutside v bytes x y = ifLt (length bytes) (v .place .start + v .place .len) x y
+
+-- a view as an answer, or the paper's number
+abbrev pub memoryAnswer : MemoryAnswer → Outcome MemoryView
+memoryAnswer (MemoryIs v) = accepted v
+memoryAnswer (MemoryRefused k) = refused k
+
+abbrev pub floatsAnswer : FloatsAnswer → Outcome FloatView
+floatsAnswer (FloatsIs v) = accepted v
+floatsAnswer (FloatsRefused k) = refused k

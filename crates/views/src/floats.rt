@@ -3,9 +3,9 @@ ghost use mathlib.Core.Path.{_≡_};
 ghost use Prim.Native.Nat.{_*_, _≤_};
 ghost use Rattle.octets.specs.Outcome.{written, onAccepted};
 ghost use Rattle.octets.specs.Place.{outsideOf};
-ghost use Rattle.views.specs.View.{floats};
+ghost use Rattle.views.specs.View.{floats, floatsAnswer};
 ghost use Rattle.views.specs.Reading.{bits, bitsAt};
-ghost use Rattle.views.specs.Joining.{joinedFloats, floatsFrom, floatsJoin};
+ghost use Rattle.views.specs.Joining.{floatsFrom, floatsJoin};
 use crate::Part;
 use crate::join;
 use crate::view_part;
@@ -26,22 +26,23 @@ pub enum FloatBits {
     Refused(u8),
 }
 
-pub enum JoinedFloats {
+// A view, or the number of the refusal.
+pub enum Answer {
     View(FloatView),
     Refused(u8),
 }
 
 // The joined bytes, which stand at the start of out, as a view.
-fn joined_floats(base: u16, answer: Written) -> JoinedFloats
-    ensures { λ r. ⌜ joinedFloats r ≡ onAccepted (floatsFrom base) (written answer) ⌝ }
+fn joined_floats(base: u16, answer: Written) -> Answer
+    ensures { λ r. ⌜ floatsAnswer r ≡ onAccepted (floatsFrom base) (written answer) ⌝ }
 {
     match answer {
-        Written::Bytes(len) => JoinedFloats::View(FloatView {
+        Written::Bytes(len) => Answer::View(FloatView {
             base,
             start: 0,
             count: len / 4,
         }),
-        Written::Refused(k) => JoinedFloats::Refused(k),
+        Written::Refused(k) => Answer::Refused(k),
     }
 }
 
@@ -85,14 +86,14 @@ impl FloatView {
         other: FloatView,
         other_bytes: &[u8],
         out: &mut [u8],
-    ) -> JoinedFloats
-        ensures { λ r. ⌜ (joinedFloats r, now (out .exit)) ≡ floatsJoin self (now (bytes .entry)) other (now («other_bytes» .entry)) (now (out .entry)) ⌝ }
+    ) -> Answer
+        ensures { λ r. ⌜ (floatsAnswer r, now (out .exit)) ≡ floatsJoin self (now (bytes .entry)) other (now («other_bytes» .entry)) (now (out .entry)) ⌝ }
     {
         if self.is_outside(bytes.len()) {
-            return JoinedFloats::Refused(refusal::OUTSIDE);
+            return Answer::Refused(refusal::OUTSIDE);
         }
         if other.is_outside(other_bytes.len()) {
-            return JoinedFloats::Refused(refusal::OUTSIDE);
+            return Answer::Refused(refusal::OUTSIDE);
         }
         let first = octets::part(bytes, self.place());
         let second = octets::part(other_bytes, other.place());

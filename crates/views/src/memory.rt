@@ -3,7 +3,8 @@ ghost use mathlib.Core.Path.{_≡_};
 ghost use Prim.Native.Nat.{_-_, min};
 ghost use Rattle.octets.specs.Outcome.{written, onAccepted};
 ghost use Rattle.views.specs.Reading.{part, byte, word, partAt, byteAt, wordAt};
-ghost use Rattle.views.specs.Joining.{joinedMemory, memoryFrom, memoryJoin};
+ghost use Rattle.views.specs.View.{memoryAnswer};
+ghost use Rattle.views.specs.Joining.{memoryFrom, memoryJoin};
 use crate::Part;
 use crate::TOP;
 use crate::join;
@@ -28,7 +29,8 @@ pub enum Word {
     Outside,
 }
 
-pub enum JoinedMemory {
+// A view, or the number of the refusal.
+pub enum Answer {
     View(MemoryView),
     Refused(u8),
 }
@@ -48,15 +50,15 @@ fn kept(base: u16, len: usize, more: usize) -> usize
 }
 
 // The joined bytes, which stand at the start of out, as a view.
-fn joined_memory(base: u16, answer: Written) -> JoinedMemory
-    ensures { λ r. ⌜ joinedMemory r ≡ onAccepted (memoryFrom base) (written answer) ⌝ }
+fn joined_memory(base: u16, answer: Written) -> Answer
+    ensures { λ r. ⌜ memoryAnswer r ≡ onAccepted (memoryFrom base) (written answer) ⌝ }
 {
     match answer {
-        Written::Bytes(len) => JoinedMemory::View(MemoryView {
+        Written::Bytes(len) => Answer::View(MemoryView {
             base,
             data: Place { start: 0, len },
         }),
-        Written::Refused(k) => JoinedMemory::Refused(k),
+        Written::Refused(k) => Answer::Refused(k),
     }
 }
 
@@ -108,16 +110,16 @@ impl MemoryView {
         other: MemoryView,
         other_bytes: &[u8],
         out: &mut [u8],
-    ) -> JoinedMemory
-        ensures { λ r. ⌜ (joinedMemory r, now (out .exit)) ≡ memoryJoin self (now (bytes .entry)) other (now («other_bytes» .entry)) (now (out .entry)) ⌝ }
+    ) -> Answer
+        ensures { λ r. ⌜ (memoryAnswer r, now (out .exit)) ≡ memoryJoin self (now (bytes .entry)) other (now («other_bytes» .entry)) (now (out .entry)) ⌝ }
     {
         let data = self.data;
         let rest = other.data;
         if octets::outside(data, bytes.len()) {
-            return JoinedMemory::Refused(refusal::OUTSIDE);
+            return Answer::Refused(refusal::OUTSIDE);
         }
         if octets::outside(rest, other_bytes.len()) {
-            return JoinedMemory::Refused(refusal::OUTSIDE);
+            return Answer::Refused(refusal::OUTSIDE);
         }
         let first = octets::part(bytes, data);
         let more = kept(self.base, data.len, rest.len);
