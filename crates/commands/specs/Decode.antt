@@ -10,7 +10,7 @@ use Rattle.octets.specs.Outcome.{Outcome, accepted, refused}
 use Rattle.octets.specs.Choice.{ifLt, ifEq}
 use Rattle.octets.specs.Number.{at, bigAt}
 use Rattle.octets.specs.Place.{placeAt}
-use Rattle.octets.specs.declared.Place.{Place}
+use Rattle.octets.specs.Reading.{needing, rest}
 use Rattle.numbers.specs.declared.gain.Gain.{Gain}
 use Rattle.numbers.specs.Gain.{bitsOfByte}
 use Rattle.fields.specs.Addr.{widthIf, addrAt}
@@ -27,17 +27,9 @@ abbrev pub parsed : Parsed → Outcome Commands
 parsed (Command c) = accepted c
 parsed (Refused k) = refused k
 
--- "packet ends before a field"
-abbrev pub needing : ℕ → List ℕ → Commands → Outcome Commands
-needing n p c = ifLt (length p) n (refused ends) (accepted c)
-
 -- "r is the count of bytes after the command byte"
 abbrev pub r : List ℕ → ℕ
 r p = length p - 1
-
--- what is left behind the first n bytes
-abbrev pub rest : ℕ → List ℕ → Place
-rest n p = placeAt n (length p - n)
 
 -- a byte that is a truth
 abbrev pub isSet : ℕ → Bool

@@ -3,7 +3,8 @@ ghost use mathlib.Core.Path.{_≡_};
 ghost use Prim.Native.Nat.{_≤_, _<_};
 ghost use mathlib.Core.Bool.{not};
 ghost use lib.ListN.{length};
-ghost use Rattle.commands.specs.Decode.{parsed, needing as needed, rest, isSet, readOf, writeMemoryOf, readMemoryOf, unk07Of, writeOf, readFloatsOf, setMuteOf, bypassOf, setConfigOf, switchMuxOf, biquadOf, setSourceOf, firStartOf, firDataOf, setVolumeOf, kindOf, commandOf, noValues, unknownAt, fiveFrom, valuesAt};
+ghost use Rattle.octets.specs.Reading.{needing as needed};
+ghost use Rattle.commands.specs.Decode.{parsed, isSet, readOf, writeMemoryOf, readMemoryOf, unk07Of, writeOf, readFloatsOf, setMuteOf, bypassOf, setConfigOf, switchMuxOf, biquadOf, setSourceOf, firStartOf, firDataOf, setVolumeOf, kindOf, commandOf, noValues, unknownAt, fiveFrom, valuesAt};
 use crate::Commands;
 use fields::addr::Addr;
 use fields::value::Coefficient;
@@ -57,11 +58,11 @@ fn by_kind(kind: u8, p: &[u8]) -> Parsed
         0x04 => parse_write_memory(p),
         0x05 => parse_read_memory(p),
         0x06 => Parsed::Command(Commands::BulkLoadFilterData {
-            payload: rest_of(p, 1),
+            payload: octets::rest_of(p, 1),
         }),
         0x07 => parse_unk07(p),
         0x12 => Parsed::Command(Commands::BulkLoad {
-            payload: rest_of(p, 1),
+            payload: octets::rest_of(p, 1),
         }),
         0x13 => parse_write(p),
         0x14 => parse_read_floats(p),
@@ -78,7 +79,7 @@ fn by_kind(kind: u8, p: &[u8]) -> Parsed
         0x42 => parse_set_volume(p),
         _ => Parsed::Command(Commands::Unknown {
             cmd_id: kind,
-            payload: rest_of(p, 1),
+            payload: octets::rest_of(p, 1),
         }),
     }
 }
@@ -91,19 +92,6 @@ fn needing(p: &[u8], n: usize, command: Commands) -> Parsed
         return Parsed::Refused(refusal::ENDS);
     }
     Parsed::Command(command)
-}
-
-// The place of what is left behind the first n bytes.
-fn rest_of(p: &[u8], n: usize) -> Place
-    ensures { λ r. ⌜ r ≡ rest n (now (p .entry)) ⌝ }
-{
-    if p.len() < n {
-        return Place { start: n, len: 0 };
-    }
-    Place {
-        start: n,
-        len: p.len() - n,
-    }
 }
 
 fn is_set(byte: u8) -> bool
@@ -127,7 +115,7 @@ fn parse_write_memory(p: &[u8]) -> Parsed
     ensures { λ r. ⌜ parsed r ≡ writeMemoryOf (now (p .entry)) ⌝ }
 {
     let addr = number::big16(p, 1);
-    let data = rest_of(p, 3);
+    let data = octets::rest_of(p, 3);
     needing(p, 3, Commands::WriteMemory { addr, data })
 }
 
@@ -153,7 +141,7 @@ fn parse_write(p: &[u8]) -> Parsed
     let wide = 7 <= p.len() - 1;
     let k = Addr::width(wide);
     let addr = Addr::at(p, 1, wide);
-    let value = Value::at(p, rest_of(p, k + 1));
+    let value = Value::at(p, octets::rest_of(p, k + 1));
     needing(p, k + 1, Commands::Write { addr, value })
 }
 
@@ -243,7 +231,7 @@ fn parse_fir_data(p: &[u8]) -> Parsed
     ensures { λ r. ⌜ parsed r ≡ firDataOf (now (p .entry)) ⌝ }
 {
     let index = number::byte(p, 1);
-    let count = rest_of(p, 3).len / 4;
+    let count = octets::rest_of(p, 3).len / 4;
     needing(
         p,
         2,
