@@ -1,6 +1,6 @@
 -- Laws of a place's bytes: past the end there is nothing, and a place that runs past it has what there is up to it.
 use mathlib.Core.Path.{_≡_, sym, ap, _∙_}
-use mathlib.Core.Bool.{true, false}
+use mathlib.Core.Bool.{Bool, true, false}
 use mathlib.Core.Logic.{_⊎_, inl, inr}
 use Prim.Native.Nat.{ℕ, _+_, _-_, _≤_, _<_, min}
 use mathlib.Core.List.{List, []}
@@ -76,3 +76,11 @@ module _ (p : Place) (have : ℕ) where
   pub was-outside : outsideOf p have ≡ true → have < p .start + p .len
   unfolding outsideOf
   was-outside e = ltb-true _ _ e
+
+-- `if outside(..)`
+module _ (p : Place) (have : ℕ) {r : Bool} (e : r ≡ outsideOf p have) where
+  pub found-outside : r ≡ true → have < p .start + p .len
+  found-outside h = was-outside p have (sym e ∙ h)
+
+  pub found-inside : r ≡ false → p .start + p .len ≤ have
+  found-inside h = was-inside p have (sym e ∙ h)

@@ -1,27 +1,19 @@
 -- What the code's tests tell of a view's place and of an address.
 use Prim.Native.Nat.{ℕ, _+_, _-_, _≤_, _<_}
 use mathlib.Core.Path.{_≡_, sym, ap, _∙_}
-use mathlib.Core.Bool.{Bool, true, false}
+use mathlib.Core.Bool.{Bool, false}
 use mathlib.Core.Option.{none, some}
 use native.Mathlib.Omega.{arith}
 use Rattle.octets.specs.Place.{placeAt, outsideOf}
 use Rattle.octets.specs.declared.Place.{Place}
 use Rattle.octets.proofs.Choosing.{passed}
-use Rattle.octets.proofs.Parts.{was-inside, was-outside}
+use Rattle.octets.proofs.Parts.{found-inside}
 use Rattle.views.specs.Reading.{part, viewPart}
 use Rattle.views.specs.declared.Part.{Part}
 use Rattle.views.specs.declared.Part.the-variants.{At}
 
 pub none-some : {A : Type 0} {v : A} → none ≡ some v → ⊥
 none-some e = let z : _≡_ {A = ℕ} 0 1 = cc in omega arith
-
--- `if outside(..)`
-module _ (p : Place) (have : ℕ) {r : Bool} (e : r ≡ outsideOf p have) where
-  pub found-outside : r ≡ true → have < p .start + p .len
-  found-outside h = was-outside p have (sym e ∙ h)
-
-  pub found-inside : r ≡ false → p .start + p .len ≤ have
-  found-inside h = was-inside p have (sym e ∙ h)
 
 -- what is found is the view's
 module _ (base count addr len : ℕ) {p : Place} where

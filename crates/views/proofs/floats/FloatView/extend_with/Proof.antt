@@ -4,7 +4,7 @@ use native.Mathlib.Omega.{arith}
 use borrow.Author.Needs.{needs}
 use Rattle.octets.proofs.Choosing.{below, above}
 use Rattle.views.specs.Joining.{floatsJoin, viewed}
-use Rattle.views.proofs.Found.{found-outside, found-inside}
+use Rattle.octets.proofs.Parts.{found-outside, found-inside}
 use Rattle.views.proofs.floats.FloatView.extend_with.Statement.{statement}
 use Rattle.views.proofs.floats.FloatView.extend_with.Tie as tie
 

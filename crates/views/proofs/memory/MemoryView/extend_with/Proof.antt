@@ -3,7 +3,7 @@ use mathlib.Core.Path.{refl, ap, _∙_}
 use borrow.Author.Needs.{needs}
 use Rattle.octets.proofs.Choosing.{below, above}
 use Rattle.views.specs.Joining.{memoryJoin, viewed}
-use Rattle.views.proofs.Found.{found-outside, found-inside}
+use Rattle.octets.proofs.Parts.{found-outside, found-inside}
 use Rattle.views.proofs.Cut.{adjoined-kept}
 use Rattle.views.proofs.memory.MemoryView.extend_with.Statement.{statement}
 use Rattle.views.proofs.memory.MemoryView.extend_with.Tie as tie

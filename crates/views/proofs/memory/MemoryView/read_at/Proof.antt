@@ -5,7 +5,8 @@ use native.Mathlib.Omega.{arith}
 use borrow.Author.Needs.{needs}
 use Rattle.views.specs.Reading.{partAt}
 use Rattle.octets.proofs.Choosing.{below, above}
-use Rattle.views.proofs.Found.{found-outside, found-inside, found-held}
+use Rattle.octets.proofs.Parts.{found-outside, found-inside}
+use Rattle.views.proofs.Found.{found-held}
 use Rattle.views.proofs.memory.MemoryView.read_at.Statement.{statement}
 use Rattle.views.proofs.memory.MemoryView.read_at.Tie as tie
 

@@ -1,0 +1,44 @@
+-- A response of another kind than the one asked for holds nothing of it. Kinds go by their numbers in the enum.
+use Prim.Native.Nat.{ℕ}
+use mathlib.Core.Bool.{not}
+use mathlib.Core.Path.{_≡_, refl}
+use mathlib.Core.List.{List, [], _∷_}
+use lib.Dec.{eqb}
+use types.Run.{OneOf, miss}
+use denote.Enum.Declared.{tagOf}
+use Rattle.octets.specs.Outcome.{Outcome}
+use Rattle.octets.specs.Choice.{pick}
+use Rattle.responses.specs.Kind.{held, no}
+use Rattle.responses.specs.declared.Responses.{Responses}
+use Rattle.responses.specs.declared.Responses.the-variants.{Ack, Read, MemoryData, FloatData, HardwareId, FirLoadSize, ConfigChanged, Unk02, Unknown}
+use Rattle.responses.proofs.Responses.{the-type}
+
+abbrev pub without : ℕ → List ℕ → List ℕ
+without k [] = []
+without k (n ∷ ns) = pick (eqb n k) (without k ns) (n ∷ without k ns)
+
+abbrev pub kinds : List ℕ
+kinds = 0 ∷ 1 ∷ 2 ∷ 3 ∷ 4 ∷ 5 ∷ 6 ∷ 7 ∷ 8 ∷ []
+
+-- where a response is not of kind number k, the answer is a refusal
+abbrev pub Unless : {A : Type 0} → ℕ → Responses → Outcome A → Type 0
+Unless k s answer = OneOf (without k kinds) (tagOf the-type s) → answer ≡ no
+
+pub record Others (s : Responses) : Type 0 where
+  pub ack : Unless 0 s (held s .ack)
+  pub memory : Unless 2 s (held s .memory)
+  pub floats : Unless 3 s (held s .floats)
+  pub hardware : Unless 4 s (held s .hardware)
+  pub size : Unless 5 s (held s .size)
+  pub config : Unless 6 s (held s .config)
+
+pub others : (s : Responses) → Others s
+others Ack = record { ack = λ h. absurd (miss (without 0 kinds) 0 tt h); memory = λ h. refl; floats = λ h. refl; hardware = λ h. refl; size = λ h. refl; config = λ h. refl }
+others (Read addr values) = record { ack = λ h. refl; memory = λ h. refl; floats = λ h. refl; hardware = λ h. refl; size = λ h. refl; config = λ h. refl }
+others (MemoryData view) = record { ack = λ h. refl; memory = λ h. absurd (miss (without 2 kinds) 2 tt h); floats = λ h. refl; hardware = λ h. refl; size = λ h. refl; config = λ h. refl }
+others (FloatData view) = record { ack = λ h. refl; memory = λ h. refl; floats = λ h. absurd (miss (without 3 kinds) 3 tt h); hardware = λ h. refl; size = λ h. refl; config = λ h. refl }
+others (HardwareId id) = record { ack = λ h. refl; memory = λ h. refl; floats = λ h. refl; hardware = λ h. absurd (miss (without 4 kinds) 4 tt h); size = λ h. refl; config = λ h. refl }
+others (FirLoadSize n) = record { ack = λ h. refl; memory = λ h. refl; floats = λ h. refl; hardware = λ h. refl; size = λ h. absurd (miss (without 5 kinds) 5 tt h); config = λ h. refl }
+others ConfigChanged = record { ack = λ h. refl; memory = λ h. refl; floats = λ h. refl; hardware = λ h. refl; size = λ h. refl; config = λ h. absurd (miss (without 6 kinds) 6 tt h) }
+others Unk02 = record { ack = λ h. refl; memory = λ h. refl; floats = λ h. refl; hardware = λ h. refl; size = λ h. refl; config = λ h. refl }
+others (Unknown id payload) = record { ack = λ h. refl; memory = λ h. refl; floats = λ h. refl; hardware = λ h. refl; size = λ h. refl; config = λ h. refl }

@@ -1,0 +1,4 @@
+pub mod Values
+pub mod Encode
+pub mod Decode
+pub mod Kind

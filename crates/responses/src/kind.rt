@@ -1,0 +1,135 @@
+// Whether a response is of a kind, and what it holds then. (Responses::is_.., into_..)
+ghost use mathlib.Core.Path.{_≡_};
+ghost use Rattle.views.specs.View.{memoryAnswer, floatsAnswer};
+ghost use Rattle.responses.specs.Kind.{isAccepted, identified, done, sized, held};
+use crate::Responses;
+use facts::HardwareId;
+use octets::refusal;
+use views::floats;
+use views::memory;
+
+// A hardware id, or the number of the refusal.
+pub enum Identified {
+    Is(HardwareId),
+    Refused(u8),
+}
+
+pub enum Done {
+    Done,
+    Refused(u8),
+}
+
+pub enum Sized {
+    Is(u16),
+    Refused(u8),
+}
+
+impl Responses {
+    pub fn is_memory_view(self) -> bool
+        ensures { λ r. ⌜ r ≡ isAccepted (held self .memory) ⌝ }
+    {
+        match self {
+            Responses::MemoryData(_) => true,
+            _ => false,
+        }
+    }
+
+    pub fn into_memory_view(self) -> memory::Answer
+        ensures { λ r. ⌜ memoryAnswer r ≡ held self .memory ⌝ }
+    {
+        match self {
+            Responses::MemoryData(view) => memory::Answer::View(view),
+            _ => memory::Answer::Refused(refusal::OTHER_KIND),
+        }
+    }
+
+    pub fn is_float_view(self) -> bool
+        ensures { λ r. ⌜ r ≡ isAccepted (held self .floats) ⌝ }
+    {
+        match self {
+            Responses::FloatData(_) => true,
+            _ => false,
+        }
+    }
+
+    pub fn into_float_view(self) -> floats::Answer
+        ensures { λ r. ⌜ floatsAnswer r ≡ held self .floats ⌝ }
+    {
+        match self {
+            Responses::FloatData(view) => floats::Answer::View(view),
+            _ => floats::Answer::Refused(refusal::OTHER_KIND),
+        }
+    }
+
+    pub fn is_hardware_id(self) -> bool
+        ensures { λ r. ⌜ r ≡ isAccepted (held self .hardware) ⌝ }
+    {
+        match self {
+            Responses::HardwareId(_) => true,
+            _ => false,
+        }
+    }
+
+    pub fn into_hardware_id(self) -> Identified
+        ensures { λ r. ⌜ identified r ≡ held self .hardware ⌝ }
+    {
+        match self {
+            Responses::HardwareId(id) => Identified::Is(id),
+            _ => Identified::Refused(refusal::OTHER_KIND),
+        }
+    }
+
+    pub fn is_ack(self) -> bool
+        ensures { λ r. ⌜ r ≡ isAccepted (held self .ack) ⌝ }
+    {
+        match self {
+            Responses::Ack => true,
+            _ => false,
+        }
+    }
+
+    pub fn into_ack(self) -> Done
+        ensures { λ r. ⌜ done r ≡ held self .ack ⌝ }
+    {
+        match self {
+            Responses::Ack => Done::Done,
+            _ => Done::Refused(refusal::OTHER_KIND),
+        }
+    }
+
+    pub fn is_config_changed(self) -> bool
+        ensures { λ r. ⌜ r ≡ isAccepted (held self .config) ⌝ }
+    {
+        match self {
+            Responses::ConfigChanged => true,
+            _ => false,
+        }
+    }
+
+    pub fn into_config_changed(self) -> Done
+        ensures { λ r. ⌜ done r ≡ held self .config ⌝ }
+    {
+        match self {
+            Responses::ConfigChanged => Done::Done,
+            _ => Done::Refused(refusal::OTHER_KIND),
+        }
+    }
+
+    pub fn is_fir_size(self) -> bool
+        ensures { λ r. ⌜ r ≡ isAccepted (held self .size) ⌝ }
+    {
+        match self {
+            Responses::FirLoadSize { size: _ } => true,
+            _ => false,
+        }
+    }
+
+    pub fn into_fir_size(self) -> Sized
+        ensures { λ r. ⌜ sized r ≡ held self .size ⌝ }
+    {
+        match self {
+            Responses::FirLoadSize { size } => Sized::Is(size),
+            _ => Sized::Refused(refusal::OTHER_KIND),
+        }
+    }
+}
