@@ -3,7 +3,8 @@ use Prim.Native.Nat.{ℕ}
 use mathlib.Core.Bool.{not}
 use mathlib.Core.Path.{_≡_, refl}
 use mathlib.Core.List.{List, [], _∷_}
-use lib.Dec.{eqb}
+use lib.Dec.{T, eqb}
+use mir.Val.{hasKey}
 use types.Run.{OneOf, miss}
 use denote.Enum.Declared.{tagOf}
 use Rattle.octets.specs.Outcome.{Outcome}
@@ -26,19 +27,25 @@ Unless k s answer = OneOf (without k kinds) (tagOf the-type s) → answer ≡ no
 
 pub record Others (s : Responses) : Type 0 where
   pub ack : Unless 0 s (held s .ack)
+  pub read : Unless 1 s (held s .read)
   pub memory : Unless 2 s (held s .memory)
   pub floats : Unless 3 s (held s .floats)
   pub hardware : Unless 4 s (held s .hardware)
   pub size : Unless 5 s (held s .size)
   pub config : Unless 6 s (held s .config)
+  pub unk02 : Unless 7 s (held s .unk02)
+
+-- what a response of this kind would hold is not asked
+never : (k : ℕ) {A : Type 0} → T (not (hasKey (without k kinds) k)) → OneOf (without k kinds) k → A
+never k t h = absurd (miss (without k kinds) k t h)
 
 pub others : (s : Responses) → Others s
-others Ack = record { ack = λ h. absurd (miss (without 0 kinds) 0 tt h); memory = λ h. refl; floats = λ h. refl; hardware = λ h. refl; size = λ h. refl; config = λ h. refl }
-others (Read addr values) = record { ack = λ h. refl; memory = λ h. refl; floats = λ h. refl; hardware = λ h. refl; size = λ h. refl; config = λ h. refl }
-others (MemoryData view) = record { ack = λ h. refl; memory = λ h. absurd (miss (without 2 kinds) 2 tt h); floats = λ h. refl; hardware = λ h. refl; size = λ h. refl; config = λ h. refl }
-others (FloatData view) = record { ack = λ h. refl; memory = λ h. refl; floats = λ h. absurd (miss (without 3 kinds) 3 tt h); hardware = λ h. refl; size = λ h. refl; config = λ h. refl }
-others (HardwareId id) = record { ack = λ h. refl; memory = λ h. refl; floats = λ h. refl; hardware = λ h. absurd (miss (without 4 kinds) 4 tt h); size = λ h. refl; config = λ h. refl }
-others (FirLoadSize n) = record { ack = λ h. refl; memory = λ h. refl; floats = λ h. refl; hardware = λ h. refl; size = λ h. absurd (miss (without 5 kinds) 5 tt h); config = λ h. refl }
-others ConfigChanged = record { ack = λ h. refl; memory = λ h. refl; floats = λ h. refl; hardware = λ h. refl; size = λ h. refl; config = λ h. absurd (miss (without 6 kinds) 6 tt h) }
-others Unk02 = record { ack = λ h. refl; memory = λ h. refl; floats = λ h. refl; hardware = λ h. refl; size = λ h. refl; config = λ h. refl }
-others (Unknown id payload) = record { ack = λ h. refl; memory = λ h. refl; floats = λ h. refl; hardware = λ h. refl; size = λ h. refl; config = λ h. refl }
+others Ack = record { ack = never 0 tt; read = λ h. refl; memory = λ h. refl; floats = λ h. refl; hardware = λ h. refl; size = λ h. refl; config = λ h. refl; unk02 = λ h. refl }
+others (Read addr values) = record { ack = λ h. refl; read = never 1 tt; memory = λ h. refl; floats = λ h. refl; hardware = λ h. refl; size = λ h. refl; config = λ h. refl; unk02 = λ h. refl }
+others (MemoryData view) = record { ack = λ h. refl; read = λ h. refl; memory = never 2 tt; floats = λ h. refl; hardware = λ h. refl; size = λ h. refl; config = λ h. refl; unk02 = λ h. refl }
+others (FloatData view) = record { ack = λ h. refl; read = λ h. refl; memory = λ h. refl; floats = never 3 tt; hardware = λ h. refl; size = λ h. refl; config = λ h. refl; unk02 = λ h. refl }
+others (HardwareId id) = record { ack = λ h. refl; read = λ h. refl; memory = λ h. refl; floats = λ h. refl; hardware = never 4 tt; size = λ h. refl; config = λ h. refl; unk02 = λ h. refl }
+others (FirLoadSize n) = record { ack = λ h. refl; read = λ h. refl; memory = λ h. refl; floats = λ h. refl; hardware = λ h. refl; size = never 5 tt; config = λ h. refl; unk02 = λ h. refl }
+others ConfigChanged = record { ack = λ h. refl; read = λ h. refl; memory = λ h. refl; floats = λ h. refl; hardware = λ h. refl; size = λ h. refl; config = never 6 tt; unk02 = λ h. refl }
+others Unk02 = record { ack = λ h. refl; read = λ h. refl; memory = λ h. refl; floats = λ h. refl; hardware = λ h. refl; size = λ h. refl; config = λ h. refl; unk02 = never 7 tt }
+others (Unknown id payload) = record { ack = λ h. refl; read = λ h. refl; memory = λ h. refl; floats = λ h. refl; hardware = λ h. refl; size = λ h. refl; config = λ h. refl; unk02 = λ h. refl }

@@ -40,21 +40,23 @@ pub record Held : Type 0 where
   pub ack : Outcome Unit
   pub config : Outcome Unit
   pub size : Outcome ℕ
+  pub read : Outcome Unit
+  pub unk02 : Outcome Unit
 
-abbrev pub heldOf : Outcome MemoryView → Outcome FloatView → Outcome HardwareId → Outcome Unit → Outcome Unit → Outcome ℕ → Held
-heldOf memory floats hardware ack config size =
-    record { memory = memory; floats = floats; hardware = hardware; ack = ack; config = config; size = size }
+abbrev pub heldOf : Outcome MemoryView → Outcome FloatView → Outcome HardwareId → Outcome Unit → Outcome Unit → Outcome ℕ → Outcome Unit → Outcome Unit → Held
+heldOf memory floats hardware ack config size read unk02 =
+    record { memory = memory; floats = floats; hardware = hardware; ack = ack; config = config; size = size; read = read; unk02 = unk02 }
 
 abbrev pub no : {A : Type 0} → Outcome A
 no = refused otherKind
 
 abbrev pub held : Responses → Held
-held Ack = heldOf no no no (accepted tt) no no
-held (Read addr values) = heldOf no no no no no no
-held (MemoryData view) = heldOf (accepted view) no no no no no
-held (FloatData view) = heldOf no (accepted view) no no no no
-held (Identity id) = heldOf no no (accepted id) no no no
-held (FirLoadSize size) = heldOf no no no no no (accepted size)
-held ConfigChanged = heldOf no no no no (accepted tt) no
-held Unk02 = heldOf no no no no no no
-held (Unknown id payload) = heldOf no no no no no no
+held Ack = heldOf no no no (accepted tt) no no no no
+held (Read addr values) = heldOf no no no no no no (accepted tt) no
+held (MemoryData view) = heldOf (accepted view) no no no no no no no
+held (FloatData view) = heldOf no (accepted view) no no no no no no
+held (Identity id) = heldOf no no (accepted id) no no no no no
+held (FirLoadSize size) = heldOf no no no no no (accepted size) no no
+held ConfigChanged = heldOf no no no no (accepted tt) no no no
+held Unk02 = heldOf no no no no no no no (accepted tt)
+held (Unknown id payload) = heldOf no no no no no no no no

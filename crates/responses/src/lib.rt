@@ -16,6 +16,8 @@ use views::memory::MemoryView;
 pub mod decode;
 pub mod encode;
 pub mod kind;
+pub mod matching;
+pub mod status;
 
 pub enum Responses {
     Ack,

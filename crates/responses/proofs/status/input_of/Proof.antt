@@ -1,0 +1,10 @@
+-- The byte, or none.
+use borrow.Author.Needs.{needs}
+use Rattle.responses.proofs.status.input_of.Statement.{statement}
+use Rattle.responses.proofs.status.input_of.Tie as tie
+
+returns : tie.Need-returns
+returns c = rw (c .before .before .id .given .1, c .from-id .ensures)
+
+pub input-of-spec : {M : Type 1} → statement M
+input-of-spec = tie.close (tie.spec (λ c. search needs) (λ c κs. search needs) (λ c. search needs) returns (λ c. search needs))

@@ -1,0 +1,110 @@
+// The master status of a device, out of a view of its memory. (MasterStatus)
+ghost use mathlib.Core.Path.{_≡_};
+ghost use mathlib.Core.Option.{Option·map};
+ghost use lib.Dec.{eqb};
+ghost use Rattle.commands.specs.Decode.{gainOf};
+ghost use Rattle.facts.specs.Source.{fromId, mappingOf};
+ghost use Rattle.views.specs.Reading.{byte};
+ghost use Rattle.responses.specs.Status.{orElse, input, volume, flag, diracIn, status, statusOf};
+use facts::DeviceInfo;
+use facts::eeprom;
+use facts::source::Source;
+use numbers::gain::Gain;
+use views::memory::Byte;
+use views::memory::MemoryView;
+
+// Each is Unknown where the view does not hold it.
+pub enum Input {
+    Is(Source),
+    Unknown,
+}
+
+pub enum Volume {
+    Is(Gain),
+    Unknown,
+}
+
+pub enum Flag {
+    Is(bool),
+    Unknown,
+}
+
+pub struct MasterStatus {
+    // Active configuration preset
+    pub preset: Byte,
+    // Active source
+    pub source: Input,
+    // Volume in dB [-127, 0]
+    pub volume: Volume,
+    // Mute status
+    pub mute: Flag,
+    // Dirac Live status
+    pub dirac: Flag,
+}
+
+impl MasterStatus {
+    pub fn from_memory(info: DeviceInfo, view: MemoryView, bytes: &[u8]) -> Self
+        ensures { λ r. ⌜ status r ≡ statusOf info view (now (bytes .entry)) ⌝ }
+    {
+        let preset = view.read_u8(bytes, eeprom::PRESET);
+        let source = view.read_u8(bytes, eeprom::SOURCE);
+        let source_async = view.read_u8(bytes, eeprom::SOURCE_ASYNC);
+        let volume = view.read_u8(bytes, eeprom::MASTER_VOLUME);
+        let mute = view.read_u8(bytes, eeprom::MUTE);
+        let dirac = view.read_u8(bytes, eeprom::DIRAC_BYPASS);
+        MasterStatus {
+            preset,
+            source: input_of(or_else(source, source_async), info),
+            volume: volume_of(volume),
+            mute: flag_of(mute, 1),
+            dirac: dirac_of(info, dirac),
+        }
+    }
+}
+
+fn or_else(first: Byte, second: Byte) -> Byte
+    ensures { λ r. ⌜ byte r ≡ orElse (byte first) (byte second) ⌝ }
+{
+    match first {
+        Byte::Is(n) => Byte::Is(n),
+        Byte::Outside => second,
+    }
+}
+
+fn input_of(id: Byte, info: DeviceInfo) -> Input
+    ensures { λ r. ⌜ input r ≡ Option·map (λ n. fromId n (mappingOf (info .«hw_id») (info .«dsp_version»))) (byte id) ⌝ }
+{
+    match id {
+        Byte::Is(n) => Input::Is(Source::from_id(n, info)),
+        Byte::Outside => Input::Unknown,
+    }
+}
+
+fn volume_of(gain: Byte) -> Volume
+    ensures { λ r. ⌜ volume r ≡ Option·map gainOf (byte gain) ⌝ }
+{
+    match gain {
+        Byte::Is(n) => Volume::Is(Gain::from_u8(n)),
+        Byte::Outside => Volume::Unknown,
+    }
+}
+
+// Whether the byte is the one that means yes.
+fn flag_of(found: Byte, yes: u8) -> Flag
+    ensures { λ r. ⌜ flag r ≡ Option·map (λ n. eqb n yes) (byte found) ⌝ }
+{
+    match found {
+        Byte::Is(n) => Flag::Is(n == yes),
+        Byte::Outside => Flag::Unknown,
+    }
+}
+
+// The byte says whether Dirac Live is bypassed.
+fn dirac_of(info: DeviceInfo, bypass: Byte) -> Flag
+    ensures { λ r. ⌜ flag r ≡ diracIn info (byte bypass) ⌝ }
+{
+    if info.supports_dirac() {
+        return flag_of(bypass, 0);
+    }
+    Flag::Unknown
+}
