@@ -3,7 +3,7 @@
 ghost use mathlib.Core.Path.{_≡_};
 ghost use lib.ListN.{length};
 ghost use Rattle.octets.specs.Outcome.{written};
-ghost use Rattle.octets.specs.Over.{into};
+ghost use Rattle.octets.specs.Over.{into, intoAt};
 ghost use Rattle.octets.specs.Place.{floatsAt, partOf, outsideOf};
 ghost use Rattle.octets.specs.Reading.{rest};
 
@@ -29,6 +29,19 @@ pub fn put(bytes: &[u8], out: &mut [u8]) -> Written
         i += 1;
     }
     Written::Bytes(bytes.len())
+}
+
+// Writes bytes over those from a place of a memory on, whole or not at all.
+pub fn put_at(bytes: &[u8], place: usize, memory: &mut [u8]) -> Written
+    ensures { λ r. ⌜ (written r, now (memory .exit)) ≡ intoAt place (now (bytes .entry)) (now (memory .entry)) ⌝ }
+{
+    if memory.len() < place {
+        return Written::Refused(refusal::OUTSIDE);
+    }
+    if memory.len() - place < bytes.len() {
+        return Written::Refused(refusal::OUTSIDE);
+    }
+    put(bytes, &mut memory[place..])
 }
 
 // A place in lent bytes, which stands for the bytes there.

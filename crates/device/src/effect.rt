@@ -1,0 +1,225 @@
+// What a command would do: its answer, and at most one write. Nothing is stored here.
+ghost use mathlib.Core.Path.{_≡_};
+ghost use mathlib.Core.Bool.{false};
+ghost use mathlib.Core.List.{List};
+ghost use Prim.Native.Nat.{ℕ, _≤_};
+ghost use lib.Dec.{eqb};
+ghost use lib.ListN.{length};
+ghost use Rattle.octets.specs.Outcome.{accepted};
+ghost use Rattle.octets.specs.Number.{littleAt};
+ghost use Rattle.fields.specs.Value.{valueBytes, valueOutside};
+ghost use Rattle.responses.specs.declared.Responses.the-variants.{FirLoadSize};
+ghost use Rattle.device.specs.Effect.{decided, effectOf, takenOf, tellsOf, identityOf, readingOf, readMemory, writeMemory, readFloats, writeWord, setByte};
+use crate::Device;
+use crate::MOST;
+use commands::Commands;
+use facts::HardwareId;
+use facts::eeprom::MASTER_VOLUME;
+use facts::eeprom::MUTE;
+use facts::eeprom::PRESET;
+use facts::eeprom::SOURCE;
+use fields::addr::Addr;
+use fields::value::Value;
+use numbers::fixed_point::FixedPoint;
+use octets::Place;
+use octets::number;
+use octets::refusal;
+use responses::Responses;
+use responses::Responses::Ack;
+use responses::Responses::ConfigChanged;
+use responses::Responses::Unk02;
+use responses::Values;
+use views::floats::FloatView;
+use views::memory::MemoryView;
+
+// What is stored, and where. Bytes stand in the command's payload.
+pub enum Write {
+    Nothing,
+    Byte { addr: u16, value: u8 },
+    Bytes { addr: u16, data: Place },
+    Word { addr: u32, value: u32 },
+}
+
+pub struct Effect {
+    pub response: Responses,
+    pub write: Write,
+}
+
+// What a command does, or the number of its refusal.
+pub enum Decided {
+    Does(Effect),
+    Refused(u8),
+}
+
+// Read's answer, the code of -10 dB
+const READ: u32 = 0x0028_7A26;
+
+// A payload of the answer, from eeprom or settings, stands at the start of its own bytes.
+pub fn decide(device: Device, command: Commands, payload: &[u8], e: usize, s: usize) -> Decided
+    ensures { λ r. ⌜ decided (now (payload .entry)) r ≡ effectOf device (now (payload .entry)) e s command ⌝ }
+{
+    match command {
+        Commands::ReadHardwareId => tells(identity(device)),
+        Commands::ReadMemory { addr, size } => read_memory(addr, size, e),
+        Commands::WriteMemory { addr, data } => write_memory(addr, data, payload, e),
+        Commands::ReadFloats { addr, len } => read_floats(addr, len, s),
+        Commands::Write { addr, value } => write_word(addr.val, value, payload, s),
+        Commands::SetConfig { config, reset: _ } => set_byte(PRESET, config, e, ConfigChanged),
+        Commands::SetSource { source } => set_byte(SOURCE, source, e, Ack),
+        Commands::SetMute { value } => set_byte(MUTE, value as u8, e, Ack),
+        Commands::SetVolume { value } => set_byte(MASTER_VOLUME, value.to_u8(), e, Ack),
+        Commands::FirLoadStart { .. } => tells(fir_size(device)),
+        Commands::Unk07 { .. } => tells(Unk02),
+        Commands::Read { addr, len: _ } => tells(reading(addr)),
+        Commands::WriteBiquad { .. } => tells(Ack),
+        Commands::WriteBiquadBypass { .. } => tells(Ack),
+        Commands::FirLoadData { .. } => tells(Ack),
+        Commands::FirLoadEnd => tells(Ack),
+        Commands::DiracBypass { .. } => tells(Ack),
+        Commands::BulkLoad { .. } => tells(Ack),
+        Commands::BulkLoadFilterData { .. } => tells(Ack),
+        Commands::SwitchMux { .. } => tells(Ack),
+        Commands::Unknown { .. } => tells(Ack),
+    }
+}
+
+fn tells(response: Responses) -> Decided
+    ensures { λ r. ⌜ ((p : List ℕ) → decided p r ≡ accepted (tellsOf response)) ⌝ }
+{
+    Decided::Does(Effect {
+        response,
+        write: Write::Nothing,
+    })
+}
+
+fn identity(device: Device) -> Responses
+    ensures { λ r. ⌜ r ≡ identityOf device ⌝ }
+{
+    Responses::HardwareId(HardwareId {
+        fw_major: device.fw_major,
+        fw_minor: device.fw_minor,
+        hw_id: device.hw_id,
+    })
+}
+
+fn fir_size(device: Device) -> Responses
+    ensures { λ r. ⌜ r ≡ FirLoadSize (device .«fir_max_taps») ⌝ }
+{
+    Responses::FirLoadSize {
+        size: device.fir_max_taps,
+    }
+}
+
+fn reading(addr: Addr) -> Responses
+    ensures { λ r. ⌜ r ≡ readingOf addr ⌝ }
+{
+    Responses::Read {
+        addr,
+        data: Values::One(Value::FixedPoint(FixedPoint::from_u32(READ))),
+    }
+}
+
+// How many of size bytes come from the EEPROM.
+pub fn taken(addr: u16, size: usize) -> usize
+    ensures { λ r. ⌜ (r ≡ takenOf addr size) × (r ≤ size) ⌝ }
+{
+    let addr = addr as usize;
+    if size <= MOST - addr {
+        return size;
+    }
+    MOST - 1 - addr
+}
+
+fn read_memory(base: u16, size: u8, e: usize) -> Decided
+    ensures { λ r. ⌜ ((p : List ℕ) → decided p r ≡ readMemory e base size) ⌝ }
+{
+    let len = size as usize;
+    if e < base as usize + taken(base, len) {
+        return Decided::Refused(refusal::OUTSIDE);
+    }
+    let data = Place { start: 0, len };
+    tells(Responses::MemoryData(MemoryView { base, data }))
+}
+
+fn read_floats(base: u16, len: u8, s: usize) -> Decided
+    ensures { λ r. ⌜ ((p : List ℕ) → decided p r ≡ readFloats s base len) ⌝ }
+{
+    let count = len as usize;
+    if s < base as usize + count {
+        return Decided::Refused(refusal::OUTSIDE);
+    }
+    let start = 0;
+    tells(Responses::FloatData(FloatView { base, start, count }))
+}
+
+fn write_memory(addr: u16, data: Place, payload: &[u8], e: usize) -> Decided
+    ensures { λ r. ⌜ decided (now (payload .entry)) r ≡ writeMemory (now (payload .entry)) e addr «data» ⌝ }
+{
+    if octets::outside(data, payload.len()) {
+        return Decided::Refused(refusal::OUTSIDE);
+    }
+    if e < addr as usize {
+        return Decided::Refused(refusal::OUTSIDE);
+    }
+    if e - (addr as usize) < data.len {
+        return Decided::Refused(refusal::OUTSIDE);
+    }
+    Decided::Does(Effect {
+        response: Ack,
+        write: Write::Bytes { addr, data },
+    })
+}
+
+fn set_byte(addr: u16, value: u8, e: usize, response: Responses) -> Decided
+    ensures { λ r. ⌜ ((p : List ℕ) → decided p r ≡ setByte e addr value response) ⌝ }
+{
+    if (addr as usize) < e {
+        return Decided::Does(Effect {
+            response,
+            write: Write::Byte { addr, value },
+        });
+    }
+    Decided::Refused(refusal::OUTSIDE)
+}
+
+// A value of another length than four names nothing.
+fn write_word(addr: u32, value: Value, payload: &[u8], s: usize) -> Decided
+    ensures { λ r. ⌜ decided (now (payload .entry)) r ≡ writeWord (now (payload .entry)) s addr value ⌝ }
+{
+    if value.is_outside(payload.len()) {
+        return Decided::Refused(refusal::OUTSIDE);
+    }
+    if is_four(value) {
+        if s <= addr as usize {
+            return Decided::Refused(refusal::OUTSIDE);
+        }
+        let word = word_of(value, payload);
+        return Decided::Does(Effect {
+            response: Ack,
+            write: Write::Word { addr, value: word },
+        });
+    }
+    tells(Ack)
+}
+
+fn is_four(value: Value) -> bool
+    ensures { λ r. ⌜ ((p : List ℕ) → valueOutside value (length p) ≡ false → r ≡ eqb (length (valueBytes value p)) 4) ⌝ }
+{
+    match value {
+        Value::Float(_) => true,
+        Value::FixedPoint(_) => true,
+        Value::Int(_) => true,
+        Value::Int32(_) => true,
+        Value::Unknown(place) => place.len == 4,
+    }
+}
+
+// The value's four bytes, the least significant first.
+fn word_of(value: Value, payload: &[u8]) -> u32
+    requires { ⌜ (valueOutside value (length (now payload)) ≡ false) × (length (valueBytes value (now payload)) ≡ 4) ⌝ }
+    ensures { λ r. ⌜ r ≡ littleAt 4 (valueBytes value (now (payload .entry))) 0 ⌝ }
+{
+    let mut bytes = [0u8; 4];
+    value.into_bytes(payload, &mut bytes);
+    number::little32(&bytes, 0)
+}

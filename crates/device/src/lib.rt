@@ -1,0 +1,33 @@
+// The processor: a mock of a device, on two memories that its caller lends. (mock_device.rs)
+ghost use mathlib.Core.Path.{_≡_};
+ghost use Rattle.device.specs.Memory.{wrongSizes};
+use facts::probe::DeviceKind;
+
+mod effect;
+pub mod memory;
+
+// What a device is beside its memories, the EEPROM (bytes) and the settings (words).
+pub struct Device {
+    pub hw_id: u8,
+    pub dsp_version: u8,
+    pub fw_major: u8,
+    pub fw_minor: u8,
+    pub kind: DeviceKind,
+    pub fir_max_taps: u16,
+}
+
+// The most bytes or words that a memory has.
+pub const MOST: usize = 65536;
+
+// Whether a memory is too large.
+fn wrong_sizes(eeprom: usize, settings: usize) -> bool
+    ensures { λ r. ⌜ r ≡ wrongSizes eeprom settings ⌝ }
+{
+    if MOST < eeprom {
+        return true;
+    }
+    if MOST < settings {
+        return true;
+    }
+    false
+}
