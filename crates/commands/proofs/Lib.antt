@@ -1,1 +1,2 @@
 pub mod Five
+pub mod Determined

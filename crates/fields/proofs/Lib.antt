@@ -1,3 +1,4 @@
 pub mod Addrs
 pub mod Rows
 pub mod Settled
+pub mod Determined

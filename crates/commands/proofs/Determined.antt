@@ -1,0 +1,70 @@
+-- Each public function's contract fixes its answer and what it leaves.
+use Prim.Native.Nat.{ℕ}
+use mathlib.Core.Path.{_≡_}
+use mathlib.Core.List.{List}
+use denote.Ref.{now}
+use Rattle.octets.specs.Outcome.{written}
+use Rattle.octets.specs.declared.Written.{Written}
+use Rattle.octets.proofs.Agree.{Fixes, agree, both}
+use Rattle.octets.proofs.Determined.{written-once}
+use Rattle.fields.specs.declared.addr.Addr.{Addr}
+use Rattle.fields.specs.declared.value.Value.{Value}
+use Rattle.commands.specs.Decode.{parsed}
+use Rattle.commands.specs.declared.Commands.{Commands}
+use Rattle.commands.specs.declared.decode.Decoded.{Decoded}
+use Rattle.commands.specs.declared.decode.Parsed.{Parsed}
+use Rattle.commands.specs.declared.decode.Parsed.the-variants.{Command, Refused}
+use Rattle.commands.specs.declared.dialect.Dialect.{Dialect}
+use Rattle.commands.proofs.Commands.from_bytes.Reads as from-bytes
+use Rattle.commands.proofs.Commands.to_bytes.Reads as to-bytes
+use Rattle.commands.proofs.Commands.to_frame.Reads as to-frame
+use Rattle.commands.proofs.Commands.mute.Reads as mute
+use Rattle.commands.proofs.dialect.Dialect.const_default.Reads as const-default
+use Rattle.commands.proofs.dialect.Dialect.addr.Reads as addr
+use Rattle.commands.proofs.dialect.Dialect.float.Reads as float
+use Rattle.commands.proofs.dialect.Dialect.int.Reads as int
+use Rattle.commands.proofs.dialect.Dialect.delay.Reads as delay
+use Rattle.commands.proofs.dialect.Dialect.mute.Reads as dialect-mute
+use Rattle.commands.proofs.dialect.Dialect.invert.Reads as invert
+
+-- an answer is known by its reading
+pub parsed-once : (a b : Parsed) → parsed a ≡ parsed b → a ≡ b
+parsed-once (Command c) (Command d) e = cc
+parsed-once (Command c) (Refused k) e = cc
+parsed-once (Refused k) (Command d) e = cc
+parsed-once (Refused j) (Refused k) e = cc
+
+pub from-bytes-fixed : Fixes Decoded from-bytes.Post (λ κs answer left. answer)
+from-bytes-fixed κs args a b x y p q =
+    let read : a .answer ≡ b .answer = parsed-once (a .answer) (b .answer) (agree (p .0) (q .0)) in
+    λ i. record { answer = read i; values = agree (p .1) (q .1) i }
+
+pub to-bytes-fixed : Fixes (Written × List ℕ) to-bytes.Post (λ κs answer left. (answer, now (left .1 .1 .1 .0)))
+to-bytes-fixed κs args a b x y p q = both written written-once (agree p q)
+
+pub to-frame-fixed : Fixes (Written × List ℕ) to-frame.Post (λ κs answer left. (answer, now (left .1 .1 .1 .0)))
+to-frame-fixed κs args a b x y p q = both written written-once (agree p q)
+
+pub mute-fixed : Fixes Commands mute.Post (λ κs answer left. answer)
+mute-fixed κs args a b x y p q = agree p q
+
+pub const-default-fixed : Fixes Dialect const-default.Post (λ κs answer left. answer)
+const-default-fixed κs args a b x y p q = agree p q
+
+pub addr-fixed : Fixes Addr addr.Post (λ κs answer left. answer)
+addr-fixed κs args a b x y p q = agree p q
+
+pub float-fixed : Fixes Value float.Post (λ κs answer left. answer)
+float-fixed κs args a b x y p q = agree p q
+
+pub int-fixed : Fixes Value int.Post (λ κs answer left. answer)
+int-fixed κs args a b x y p q = agree p q
+
+pub delay-fixed : Fixes Value delay.Post (λ κs answer left. answer)
+delay-fixed κs args a b x y p q = agree p q
+
+pub dialect-mute-fixed : Fixes Value dialect-mute.Post (λ κs answer left. answer)
+dialect-mute-fixed κs args a b x y p q = agree p q
+
+pub invert-fixed : Fixes Value invert.Post (λ κs answer left. answer)
+invert-fixed κs args a b x y p q = agree p q
