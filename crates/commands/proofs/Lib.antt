@@ -1,2 +1,4 @@
 pub mod Five
 pub mod Determined
+pub mod Layouts
+pub mod RoundTrip

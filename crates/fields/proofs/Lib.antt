@@ -1,4 +1,5 @@
 pub mod Addrs
 pub mod Rows
 pub mod Settled
+pub mod Back
 pub mod Determined

@@ -9,6 +9,8 @@ use native.Mathlib.Omega.{arith}
 use lib.ListN.{length, take, drop, getD, length-append, drop-of-length-le, take-append-drop}
 use lib.Seq.{drop-cons, take-suc, take-all}
 use Rattle.octets.specs.Choice.{pick}
+use Rattle.octets.specs.Place.{placeAt, partOf}
+use Rattle.octets.proofs.Parts.{part-between}
 use Rattle.fields.specs.declared.row.Cell.{Cell}
 use Rattle.fields.specs.declared.row.Field.{Field}
 use Rattle.fields.specs.declared.row.Field.the-variants.{Nothing}
@@ -62,12 +64,28 @@ sound-at p cells i s h =
       placed = rw (field-at cells i) at (none-at (misplaced (length p)) (fieldsOf cells) i (s .placed) k);
     }
 
+-- a field of a sound row
+module _ (test : Field → Bool) (f : Field) (after : List Field) where
+  none-of : (before : List Field) → anyOf test (before ++ (f ∷ after)) ≡ false → test f ≡ false
+  unfolding anyOf
+  none-of [] e = neither (test f) (anyOf test after) e .0
+  none-of (g ∷ gs) e = none-of gs (neither (test g) (anyOf test (gs ++ (f ∷ after))) e .1)
+
+pub sound-of : (p : List ℕ) (before : List Field) (f : Field) (after : List Field) → AllSound p (before ++ (f ∷ after)) → Sound p f
+sound-of p before f after s =
+    record { addressed = none-of misaddressed f after before (s .addressed); placed = none-of (misplaced (length p)) f after before (s .placed) }
+
 -- ---- the packet of a row
 module _ (p : List ℕ) where
-  packet-append : (a b : List Field) → packetOf p (a ++ b) ≡ packetOf p a ++ packetOf p b
+  pub packet-append : (a b : List Field) → packetOf p (a ++ b) ≡ packetOf p a ++ packetOf p b
   unfolding packetOf
   packet-append [] b = refl
   packet-append (f ∷ fs) b = rw (packet-append fs b, append-assoc)
+
+  -- where a field's bytes stand
+  pub stands : (before after : List Field) (f : Field) (n m : ℕ) → n ≡ length (packetOf p before) → m ≡ length (bytesOf p f) → partOf (packetOf p (before ++ (f ∷ after))) (placeAt n m) ≡ bytesOf p f
+  unfolding packetOf
+  stands before after f n m h g = rw packet-append (part-between (packetOf p before) (bytesOf p f) (packetOf p after) n m h g)
 
   -- one field more
   pub packet-more : (cells : List Cell) (i : ℕ) → i < length cells → packetOf p (take (i + 1) (fieldsOf cells)) ≡ packetOf p (take i (fieldsOf cells)) ++ bytesOf p (getD cells i noCell .field)

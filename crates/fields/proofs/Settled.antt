@@ -1,6 +1,6 @@
 -- What it tells that a row was settled, or refused.
 use Prim.Native.Nat.{ℕ, _≤_}
-use mathlib.Core.Path.{_≡_, refl, sym}
+use mathlib.Core.Path.{_≡_, refl, sym, ap}
 use mathlib.Core.Bool.{Bool, true, false}
 use mathlib.Core.List.{List}
 use native.Mathlib.Omega.{arith}
@@ -41,3 +41,14 @@ module _ (p : List ℕ) (row : List Field) where
       go : (o : Outcome (List ℕ)) → refused k ≡ counted o → o ≡ refused k
       go (accepted bytes) e = clash (sym e)
       go (refused j) e = cc
+
+-- what is known of a packet that was written
+pub record Written (p : List ℕ) (row : List Field) (packet : List ℕ) : Type 0 where
+  pub is : packet ≡ packetOf p row
+  pub sound : AllSound p row
+  pub short : length packet ≤ 254
+
+pub was-written : (p : List ℕ) (row : List Field) (packet : List ℕ) → encodedOf p row ≡ accepted packet → Written p row packet
+was-written p row packet e =
+    let ready = was-settled p row (length packet) (sym (ap counted e)) in
+    record { is = cc (ready .is); sound = ready .sound; short = ready .short }

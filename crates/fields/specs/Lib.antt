@@ -1,3 +1,4 @@
 pub mod Addr
 pub mod Value
 pub mod Row
+pub mod Back

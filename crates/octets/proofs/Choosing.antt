@@ -58,6 +58,9 @@ module _ {A B : Type 0} (f : A → B) (a b : ℕ) (x y : A) where
   pub if-of : f (ifLt a b x y) ≡ ifLt a b (f x) (f y)
   if-of = either-lt (λ z. f z ≡ ifLt a b (f x) (f y)) a b x y (λ h. below _ _ _ _ _ h refl) (λ h. above _ _ _ _ _ h refl)
 
+  pub if-eq-of : f (ifEq a b x y) ≡ ifEq a b (f x) (f y)
+  if-eq-of = either-eq (λ z. f z ≡ ifEq a b (f x) (f y)) a b x y (λ h. same _ _ _ _ _ h refl) (λ h. other _ _ _ _ _ h refl)
+
 -- an answer that is not the one given at a test tells how the test came out
 module _ {A : Type 0} (a b : ℕ) (x y z : A) (never : x ≡ z → ⊥) where
   pub passed : ifLt a b x y ≡ z → (b ≤ a) × (y ≡ z)

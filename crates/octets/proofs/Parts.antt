@@ -3,10 +3,10 @@ use mathlib.Core.Path.{_≡_, sym, ap, _∙_}
 use mathlib.Core.Bool.{Bool, true, false}
 use mathlib.Core.Logic.{_⊎_, inl, inr}
 use Prim.Native.Nat.{ℕ, _+_, _-_, _≤_, _<_, min}
-use mathlib.Core.List.{List, []}
+use mathlib.Core.List.{List, [], _++_}
 use native.Mathlib.Omega.{arith}
 use lib.ListN.{length, take, drop, length-take, length-drop, drop-of-length-le}
-use lib.Seq.{take-all, take-nil, take-take, take-add, drop-drop, drop-at, length-take-le, getD-take, getD-drop}
+use lib.Seq.{take-all, take-at, take-nil, take-take, take-add, drop-drop, drop-at, drop-append-add, length-take-le, getD-take, getD-drop}
 use borrow.Author.Tests.{lt-ltb, le-ltb, ltb-false, ltb-true}
 use Rattle.octets.specs.declared.Place.{Place}
 use Rattle.octets.specs.Place.{placeAt, partOf, outsideOf}
@@ -59,6 +59,16 @@ part-part l s n i k h g =
     let cut : drop i (take n d) ≡ take (n - i) (drop i d) =
     ap (λ (m : ℕ). drop i (take m d)) e ∙ rw (take-add i (n - i) d) (drop-at (take i d) (take (n - i) (drop i d)) i (length-take-le i d (omega arith))) in
     rw (cut, take-take k (n - i) (drop i d) (omega arith), drop-drop i s l)
+
+-- behind other bytes
+pub part-behind : (a l : List ℕ) (i n : ℕ) → partOf (a ++ l) (placeAt (length a + i) n) ≡ partOf l (placeAt i n)
+unfolding partOf
+part-behind a l i n = rw drop-append-add
+
+-- bytes between others
+pub part-between : (a b l : List ℕ) (n m : ℕ) → n ≡ length a → m ≡ length b → partOf (a ++ (b ++ l)) (placeAt n m) ≡ b
+unfolding partOf
+part-between a b l n m h g = rw (drop-at a (b ++ l) n (sym h)) (take-at b l m (sym g))
 
 module _ (p : Place) (have : ℕ) where
   pub is-inside : p .start + p .len ≤ have → false ≡ outsideOf p have
