@@ -2,3 +2,4 @@ pub mod Five
 pub mod Determined
 pub mod Layouts
 pub mod RoundTrip
+pub mod Again

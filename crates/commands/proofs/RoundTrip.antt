@@ -16,10 +16,12 @@ use Rattle.octets.specs.Number.{bigBytes}
 use Rattle.octets.specs.Place.{placeAt, floatsAt, partOf, outsideOf}
 use Rattle.octets.specs.declared.Place.{Place}
 use Rattle.octets.proofs.Parts.{length-part, was-inside, part-part, part-behind, part-between}
+use Rattle.numbers.proofs.Gains.{gain-back}
 use Rattle.fields.specs.Addr.{addrOf, bit, addrBytes}
 use Rattle.fields.specs.Value.{valueBytes}
 use Rattle.fields.specs.Row.{packetOf, encodedOf}
 use Rattle.fields.specs.declared.addr.Addr.{Addr}
+use Rattle.fields.specs.declared.row.Field.{Field}
 use Rattle.fields.specs.declared.row.Field.the-variants.{Byte, Word, Address, Coded, Payload, Floats}
 use Rattle.fields.specs.declared.value.Value.{Value}
 use Rattle.fields.specs.declared.value.Value.the-variants.{Int}
@@ -28,7 +30,7 @@ use Rattle.fields.proofs.Addrs.{length-addr}
 use Rattle.fields.proofs.Rows.{sound-of, stands, packet-append}
 use Rattle.fields.proofs.Settled.{Written, was-written}
 use Rattle.fields.proofs.Back.{cut-whole, int-back}
-use Rattle.commands.specs.Decode.{commandOf, kindOf, isSet, valuesAt, fiveFrom, coefficient}
+use Rattle.commands.specs.Decode.{commandOf, kindOf, isSet, gainOf, valuesAt, fiveFrom, coefficient}
 use Rattle.commands.specs.Encode.{rowOf, muxByte, valuesOf}
 use Rattle.commands.specs.RoundTrip.{back, Readable, FourEach}
 use Rattle.commands.specs.declared.Commands.{Commands}
@@ -90,19 +92,22 @@ module _ (p : List ℕ) (values : List Coefficient) (packet : List ℕ) where
   inside : (place : Place) → outsideOf place (length p) ≡ false → place .len ≡ length (partOf p place)
   inside place h = sym (length-part p place (was-inside place (length p) h))
 
+  part-kept : (before : List Field) (place : Place) (n : ℕ) → n ≡ length (packetOf p before) → encodedOf p (before ++ (Payload place ∷ [])) ≡ accepted packet → partOf packet (placeAt n (place .len)) ≡ partOf p place
+  part-kept before place n h e =
+      let w = was-written p (before ++ (Payload place ∷ [])) packet e in
+      rw (w .is) (stands p before [] (Payload place) n (place .len) h (inside place (sound-of p before (Payload place) [] (w .sound) .placed)))
+
   pub payload-kept : (k : ℕ) (place : Place) → encodedOf p (Byte k ∷ Payload place ∷ []) ≡ accepted packet → partOf packet (placeAt 1 (place .len)) ≡ partOf p place
   unfolding packetOf
-  payload-kept k place e =
-      let w = was-written p (Byte k ∷ Payload place ∷ []) packet e in
-      let s = sound-of p (Byte k ∷ []) (Payload place) [] (w .sound) in
-      rw (w .is) (stands p (Byte k ∷ []) [] (Payload place) 1 (place .len) refl (inside place (s .placed)))
+  payload-kept k place = part-kept (Byte k ∷ []) place 1 refl
 
   pub memory-kept : (addr : ℕ) (place : Place) → encodedOf p (rowOf (WriteMemory addr place) values) ≡ accepted packet → partOf packet (placeAt 3 (place .len)) ≡ partOf p place
   unfolding packetOf bigBytes
-  memory-kept addr place e =
-      let w = was-written p (Byte 0x04 ∷ Word addr ∷ Payload place ∷ []) packet e in
-      let s = sound-of p (Byte 0x04 ∷ Word addr ∷ []) (Payload place) [] (w .sound) in
-      rw (w .is) (stands p (Byte 0x04 ∷ Word addr ∷ []) [] (Payload place) 3 (place .len) refl (inside place (s .placed)))
+  memory-kept addr place = part-kept (Byte 0x04 ∷ Word addr ∷ []) place 3 refl
+
+  pub dirac-kept : (value : ℕ) → encodedOf p (rowOf (DiracBypass value) values) ≡ accepted packet → partOf packet (placeAt 1 1) ≡ value ∷ []
+  unfolding packetOf
+  dirac-kept value e = rw (was-written p (rowOf (DiracBypass value) values) packet e .is) (stands p (Byte 0x3F ∷ []) [] (Byte value) 1 1 refl refl)
 
   pub value-kept : (addr : Addr) (value : Value) → encodedOf p (rowOf (Write addr value) values) ≡ accepted packet → partOf packet (placeAt (addr .len + 1) (length (valueBytes value p))) ≡ valueBytes value p
   unfolding packetOf
@@ -136,7 +141,7 @@ module _ (p : List ℕ) (values : List Coefficient) (packet : List ℕ) where
         λ i h. rw (split, n) (part-behind front (packetOf p (valuesOf values)) (i * 4) 4 ∙ nth p values (u .1) i (omega (arith, u .0))),
       )
 
--- ---- where nothing is lost: an address that its mask leaves whole, an Int that is not 0, a mux of seven bits
+-- ---- where nothing is lost: an address that its mask leaves whole, an Int that is not 0, a mux of seven bits, a byte's gain
 picked : (b : Bool) → pick b true false ≡ b
 picked true = refl
 picked false = refl
@@ -156,3 +161,6 @@ module _ (p : List ℕ) (addr : Addr) (whole : addr .val < 2 ^ (8 * addr .len - 
 
   pub mux-whole : (max : ℕ) (arg : Bool) (slot : ℕ) → max < 128 → back p (SwitchMux addr max arg slot) ≡ SwitchMux addr max arg slot
   mux-whole max arg slot h = rw (cut-whole addr whole, mod-eq-of-lt h, lt-leb 128 max h, picked arg)
+
+pub volume-whole : (p : List ℕ) (k : ℕ) → k < 256 → back p (SetVolume (gainOf k)) ≡ SetVolume (gainOf k)
+volume-whole p k h = rw (gain-back k h)

@@ -1,5 +1,5 @@
 -- What comes back of a command that is written and read again, with every exception of document 01.
-use Prim.Native.Nat.{ℕ, _+_, _-_, _%_, _^_, _<_}
+use Prim.Native.Nat.{ℕ, _+_, _-_, _%_, _^_, _≤_, _<_}
 use mathlib.Core.Path.{_≡_}
 use mathlib.Core.Bool.{true}
 use mathlib.Core.List.{List, [], _∷_}
@@ -7,11 +7,12 @@ use lib.Dec.{leb}
 use lib.ListN.{length}
 use lib.Ieee.{binary32, toBits}
 use Rattle.octets.specs.Choice.{pick}
+use Rattle.octets.specs.Number.{at, bigAt}
 use Rattle.octets.specs.Place.{placeAt}
 use Rattle.numbers.specs.Gain.{byteOf}
 use Rattle.fields.specs.Addr.{addrOf, widthIf}
 use Rattle.fields.specs.Value.{valueBytes}
-use Rattle.fields.specs.Back.{cut, reread}
+use Rattle.fields.specs.Back.{cut, reread, Clear}
 use Rattle.fields.specs.declared.value.Coefficient.{Coefficient}
 use Rattle.commands.specs.Decode.{gainOf}
 use Rattle.commands.specs.declared.Commands.{Commands}
@@ -80,3 +81,30 @@ Readable p values (BulkLoadFilterData payload) = Unit
 Readable p values (Unk07 payload) = Unit
 Readable p values (SwitchMux addr max arg slot) = addr .len ≡ 2
 Readable p values (Unknown id payload) = NoneOf id kinds
+
+-- Which packets are written again as they were read: those with nothing in them that reading passes by. "Extra bytes are ignored
+-- where no payload is named"; a truth is any byte but 0 and is written as 1; the bits of an address that are masked are clear;
+-- the two bytes behind a biquad's address are zero; and a 0x3A has no float, for of any list the last bytes are dropped. (DiracBypass is
+-- never read.)
+abbrev pub Tidy : List ℕ → Commands → Type 0
+Tidy p ReadHardwareId = length p ≡ 1
+Tidy p (ReadFloats addr len) = length p ≡ 4
+Tidy p (WriteMemory addr place) = Unit
+Tidy p (ReadMemory addr size) = length p ≡ 4
+Tidy p (SetConfig config reset) = (length p ≡ 3) × (at p 2 ≤ 1)
+Tidy p (SetSource source) = length p ≡ 2
+Tidy p (SetMute value) = (length p ≡ 2) × (at p 1 ≤ 1)
+Tidy p (SetVolume gain) = length p ≡ 2
+Tidy p (WriteBiquad addr) = (length p ≡ addr .len + 23) × Clear (addr .len) p 1 × (bigAt 2 p (addr .len + 1) ≡ 0)
+Tidy p (WriteBiquadBypass addr value) = (length p ≡ addr .len + 1) × Clear (addr .len) p 1
+Tidy p (Read addr len) = (length p ≡ addr .len + 2) × Clear (addr .len) p 1
+Tidy p (Write addr value) = Clear (addr .len) p 1
+Tidy p (FirLoadStart index) = length p ≡ 2
+Tidy p (FirLoadData index start count) = length p ≡ 2
+Tidy p FirLoadEnd = length p ≡ 1
+Tidy p (DiracBypass value) = Unit
+Tidy p (BulkLoad payload) = Unit
+Tidy p (BulkLoadFilterData payload) = Unit
+Tidy p (Unk07 payload) = length p ≡ 2
+Tidy p (SwitchMux addr max arg slot) = (length p ≡ 5) × Clear 2 p 1
+Tidy p (Unknown id payload) = Unit

@@ -1,7 +1,10 @@
--- What comes back of an address and of a value that are written and read again.
-use Prim.Native.Nat.{ℕ, _+_, _-_, _*_, _%_, _^_}
+-- What comes back of an address and of a value that are written and read again, and which address is written again as it was
+-- read.
+use Prim.Native.Nat.{ℕ, _+_, _-_, _*_, _/_, _%_, _^_}
+use mathlib.Core.Path.{_≡_}
 use mathlib.Core.List.{List}
 use lib.ListN.{length}
+use Rattle.octets.specs.Number.{bigAt}
 use Rattle.octets.specs.Place.{placeAt}
 use Rattle.fields.specs.Addr.{addrOf}
 use Rattle.fields.specs.Value.{valueAt}
@@ -24,3 +27,7 @@ moved n (Unknown place) = Unknown (placeAt (n + place .start) (place .len))
 -- a value comes back as what its bytes, n bytes into the packet, read as: Int or Unknown
 abbrev pub reread : List ℕ → ℕ → Value
 reread bytes n = moved n (valueAt bytes (placeAt 0 (length bytes)))
+
+-- the three bits below the top bit of an address are clear
+abbrev pub Clear : ℕ → List ℕ → ℕ → Type 0
+Clear k bytes place = bigAt k bytes place / 2 ^ (8 * k - 4) % 8 ≡ 0

@@ -138,8 +138,11 @@ half-val (fin t m e) k h v =
     (round-to binary32 1 148 refl true (1 * (m * up e)) (2 * down e) k k 0 (mul-pos {m = 2} (lit< tt) (down-pos e)) (omega arith) (lit≤ tt) (sym (mul-one k))
     (rw (one-mul, ← mul-one (m * up e), v .1, mul-assoc, mul-comm (down e) 2)))
 
-pub gain-agrees : (k : ℕ) → k < 256 → ofBits binary32 (bitsOfByte k) ≡ gainBy k
+pub gain-bits : (k : ℕ) → k < 256 → toBits binary32 (gainBy k) ≡ bitsOfByte k
 unfolding ofInt
+gain-bits k h = pattern-is 1 124 refl (gainBy k) true k (half-val (ofInt binary32 (pos k)) k h (round-whole binary32 false k (omega arith)))
+
+pub gain-agrees : (k : ℕ) → k < 256 → ofBits binary32 (bitsOfByte k) ≡ gainBy k
 gain-agrees k h =
-    ap (ofBits binary32) (sym (pattern-is 1 124 refl (gainBy k) true k (half-val (ofInt binary32 (pos k)) k h (round-whole binary32 false k (omega arith)))))
+    ap (ofBits binary32) (sym (gain-bits k h))
     ∙ ofBits-toBits binary32 (gainBy k) (mul-fits binary32 (fin true 1 (negsuc 0)) (ofInt binary32 (pos k)))

@@ -2,14 +2,14 @@
 use mathlib.Core.Path.{_≡_, refl, sym, ap, _∙_, subst}
 use mathlib.Core.Logic.{_⊎_, inl, inr}
 use Prim.Native.Nat.{ℕ, zero, suc, _+_, _-_, _*_, _/_, _%_, _^_, _≤_, _<_, min}
-use native.Mathlib.Nat.{eq-or-lt-of-le, mul-le-mul-left, mul-le-mul-right, mul-one, mul-assoc, le-trans, le-of-lt, lt-of-lt-of-le, lt-of-le-of-lt, le-div-iff-mul-le, div-eq-of-lt, div-lt-iff-lt-mul, mul-div-mul-right, mod-lt}
+use native.Mathlib.Nat.{le-of-suc-le-suc, eq-or-lt-of-le, mul-le-mul-left, mul-le-mul-right, mul-one, mul-assoc, le-trans, le-of-lt, lt-of-lt-of-le, lt-of-le-of-lt, le-div-iff-mul-le, div-eq-of-lt, div-lt-iff-lt-mul, mul-div-mul-right, mod-lt}
 use native.Mathlib.Decide.{ℕ-discrete}
 use native.Mathlib.Omega.{arith}
 use mathlib.Core.Bool.{Bool, true, false, cond, true≢false}
 use lib.IntN.{pos}
 use lib.Dec.{T, eqb, lit<, lit≤, eqb→eq, not-T}
 use lib.Pow.{pow-add, pow-pos, pow-mono, shr-mono, field}
-use lib.Ieee.{Float, nan, inf, fin, binary32, up, down, round, mul, le, toUnsigned, ofFields, ofBits, toBits, fits}
+use lib.Ieee.{Float, nan, inf, fin, binary32, up, down, size, round, mul, le, toUnsigned, ofFields, ofBits, toBits, fits}
 use lib.Ieee.Bits.{cond-no, ofBits-toBits}
 use lib.Ieee.Fits.{down-pos}
 use lib.Ieee.Nearest.{div-same}
@@ -17,13 +17,15 @@ use lib.Ieee.Exact.{HasValue}
 use lib.Ieee.Order.{round-mono}
 use lib.Ieee.Scale.{round-same}
 use lib.Ieee.Positive.{above-of-le, le→cross}
-use Rattle.octets.specs.Choice.{ifEq}
+use Rattle.octets.specs.Choice.{pick, ifEq}
 use Rattle.octets.proofs.Choosing.{lt-or-le, same, other, either-eq}
-use Rattle.numbers.specs.Pattern.{negative, exponent, digits, magnitude}
-use Rattle.numbers.specs.Gain.{byteOf}
+use borrow.Author.Tests.{eqb-true}
+use Rattle.numbers.specs.Pattern.{negative, exponent, digits, magnitude, patternOf}
+use Rattle.numbers.specs.Gain.{bitsOfByte, byteOf}
 use Rattle.numbers.specs.Ieee.{absolute, byteBy}
 use Rattle.numbers.proofs.Round.{round-to}
 use Rattle.numbers.proofs.Magnitude.{mag-is, mag-ge, size-of, in-order}
+use Rattle.numbers.proofs.Bits.{gain-bits, gain-agrees}
 use Rattle.numbers.proofs.Agrees.{Finite, is-finite, is-infinite, is-nan}
 
 -- ---- the thresholds, by their magnitudes
@@ -172,3 +174,23 @@ byte-agrees bits =
 -- of a float, NaN included
 pub to-byte-agrees : (x : Float) → T (fits binary32 x) → byteOf (toBits binary32 x) ≡ byteBy x
 to-byte-agrees x h = byte-agrees (toBits binary32 x) ∙ ap byteBy (ofBits-toBits binary32 x h)
+
+-- ---- a byte's gain gives the byte back: one test, computed at each of the 256
+abbrev every : (ℕ → Bool) → ℕ → Bool
+every f zero = true
+every f (suc n) = pick (f n) (every f n) false
+
+of-every : (f : ℕ → Bool) (n k : ℕ) → every f n ≡ true → k < n → f k ≡ true
+of-every f zero k e h = absurd (omega arith)
+of-every f (suc n) k e h = elim (eq-or-lt-of-le (le-of-suc-le-suc h)) [ inl same ↦ rw same (first (f n) (every f n) e .0) | inr less ↦ of-every f n k (first (f n) (every f n) e .1) less ]
+  where
+    first : (a b : Bool) → pick a b false ≡ true → (a ≡ true) × (b ≡ true)
+    first true b e = (refl, e)
+    first false b e = absurd (true≢false (sym e))
+
+all-back : every (λ k. eqb (byteOf (bitsOfByte k)) k) 256 ≡ true
+unfolding byteOf magnitude patternOf ifEq size
+all-back = refl
+
+pub gain-back : (k : ℕ) → k < 256 → byteOf (toBits binary32 (ofBits binary32 (bitsOfByte k))) ≡ k
+gain-back k h = rw (gain-agrees k h, gain-bits k h) (eqb-true _ _ (of-every (λ k. eqb (byteOf (bitsOfByte k)) k) 256 k all-back h))

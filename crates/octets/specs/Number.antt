@@ -1,11 +1,15 @@
 -- Numbers in bytes. "numbers are big-endian unless said"
-use Prim.Native.Nat.{ℕ, zero, suc, _+_, _*_, _/_, _%_, _^_}
+use Prim.Native.Nat.{ℕ, zero, suc, _+_, _*_, _/_, _%_, _^_, _<_}
 use mathlib.Core.List.{List, [], _∷_, _++_}
 use lib.ListN.{getD}
 
 -- the byte at a place, 0 where there is none
 abbrev pub at : List ℕ → ℕ → ℕ
 at bytes place = getD bytes place 0
+
+-- a list of bytes
+abbrev pub Bytes : List ℕ → Type 0
+Bytes l = (i : ℕ) → at l i < 256
 
 -- the number in k bytes at a place, the most significant first
 unfoldable pub bigAt : ℕ → List ℕ → ℕ → ℕ
