@@ -1,6 +1,6 @@
 -- Reading what was written gives the record back, with the exceptions of document 01: `back` says what comes back, and
 -- `Readable` what does (specs/RoundTrip.antt).
-use Prim.Native.Nat.{ℕ, zero, suc, _+_, _-_, _*_, _%_, _^_, _<_}
+use Prim.Native.Nat.{ℕ, zero, suc, _+_, _-_, _*_, _%_, _^_, _≤_, _<_}
 use mathlib.Core.Path.{_≡_, refl, sym, ap, _∙_}
 use mathlib.Core.Bool.{Bool, true, false}
 use mathlib.Core.List.{List, [], _∷_, _++_}
@@ -15,6 +15,7 @@ use Rattle.octets.specs.Choice.{ifLt, ifEq, pick}
 use Rattle.octets.specs.Number.{bigBytes}
 use Rattle.octets.specs.Place.{placeAt, floatsAt, partOf, outsideOf}
 use Rattle.octets.specs.declared.Place.{Place}
+use Rattle.octets.proofs.Choosing.{above, other}
 use Rattle.octets.proofs.Parts.{length-part, was-inside, part-part, part-behind, part-between}
 use Rattle.numbers.proofs.Gains.{gain-back}
 use Rattle.fields.specs.Addr.{addrOf, bit, addrBytes}
@@ -30,7 +31,7 @@ use Rattle.fields.proofs.Addrs.{length-addr}
 use Rattle.fields.proofs.Rows.{sound-of, stands, packet-append}
 use Rattle.fields.proofs.Settled.{Written, was-written}
 use Rattle.fields.proofs.Back.{cut-whole, int-back}
-use Rattle.commands.specs.Decode.{commandOf, kindOf, isSet, gainOf, valuesAt, fiveFrom, coefficient}
+use Rattle.commands.specs.Decode.{commandOf, kindOf, isSet, gainOf, valuesAt, noValues, fiveFrom, coefficient}
 use Rattle.commands.specs.Encode.{rowOf, muxByte, valuesOf}
 use Rattle.commands.specs.RoundTrip.{back, Readable, FourEach}
 use Rattle.commands.specs.declared.Commands.{Commands}
@@ -45,7 +46,8 @@ mux : (max : ℕ) (arg : Bool) → (muxByte max arg % 128 ≡ max % 128) × (leb
 mux max true = (omega arith, le-leb 128 (128 + max % 128) (omega arith))
 mux max false = (refl, refl)
 
-abbrev noValue : Coefficient
+-- what stands past the end of a list of values
+abbrev pub noValue : Coefficient
 noValue = coefficient (Int 0)
 
 nth : (p : List ℕ) (values : List Coefficient) → FourEach p values → (i : ℕ) → i < length values → partOf (packetOf p (valuesOf values)) (placeAt (i * 4) 4) ≡ valueBytes (getD values i noValue .value) p
@@ -140,6 +142,14 @@ module _ (p : List ℕ) (values : List Coefficient) (packet : List ℕ) where
         values-of p packet addr values (u .0) (u .1) w,
         λ i h. rw (split, n) (part-behind front (packetOf p (valuesOf values)) (i * 4) 4 ∙ nth p values (u .1) i (omega (arith, u .0))),
       )
+
+  -- beside any other command stands the default
+  pub no-values : (k : ℕ) (fs : List Field) → (k ≡ 0x30 → ⊥) → encodedOf p (Byte k ∷ fs) ≡ accepted packet → valuesAt packet ≡ noValues
+  unfolding valuesAt packetOf
+  no-values k fs n e =
+      let w = was-written p (Byte k ∷ fs) packet e in
+      let short : length (k ∷ packetOf p fs) ≤ 254 = rw (w .is) at (w .short) in
+      rw (w .is) (sym (above _ _ _ _ _ short (other _ _ _ _ _ n refl)))
 
 -- ---- where nothing is lost: an address that its mask leaves whole, an Int that is not 0, a mux of seven bits, a byte's gain
 picked : (b : Bool) → pick b true false ≡ b

@@ -18,8 +18,9 @@ use Rattle.commands.specs.Decode.{gainOf}
 use Rattle.commands.specs.declared.Commands.{Commands}
 use Rattle.commands.specs.declared.Commands.the-variants.{ReadHardwareId, ReadFloats, WriteMemory, ReadMemory, SetConfig, SetSource, SetMute, SetVolume, WriteBiquad, WriteBiquadBypass, Read, Write, FirLoadStart, FirLoadData, FirLoadEnd, DiracBypass, BulkLoad, BulkLoadFilterData, Unk07, SwitchMux, Unknown}
 
--- What comes back. A payload stands in the packet then. "The last four bytes of an exact list are dropped."
--- "0x3F is written by DiracBypass but read as Unknown."
+-- What comes back. A payload stands in the packet then, an address is cut, and a gain is its byte's. 0x19: "its value is the
+-- extra bit". 0x3A: "The last four bytes of an exact list are dropped." "0x3F is written by DiracBypass but read as Unknown." A
+-- mux's largest number keeps seven bits, and its eighth reads as arg.
 abbrev pub back : List ℕ → Commands → Commands
 back p ReadHardwareId = ReadHardwareId
 back p (ReadFloats addr len) = ReadFloats addr len
@@ -56,9 +57,10 @@ abbrev pub FourEach : List ℕ → List Coefficient → Type 0
 FourEach p [] = Unit
 FourEach p (c ∷ cs) = (length (valueBytes (c .value) p) ≡ 4) × FourEach p cs
 
--- Which records come back. An address must be read in the width in which it is written: "3-byte address if r >= 3, else 2. So
--- r = 3 is refused with 3 and only r >= 4 is read", "3 if r >= 7, else 2"; a mux switch's is read in two bytes. The five values
--- of a biquad must take four bytes each, an unknown command must not have the byte of a kind, and a u16 is below 2^16.
+-- Which records come back; any other is read as something else, or refused. An address must be read in the width in which it is
+-- written: 0x02 "3-byte address if r >= 3, else 2. So r = 3 is refused with 3 and only r >= 4 is read", 0x13 "3 if r >= 7, else 2",
+-- and a mux switch's is read in two bytes. The five values of a biquad must take four bytes each, an unknown command must not
+-- have the byte of a kind, and a u16 is below 2^16.
 abbrev pub Readable : List ℕ → List Coefficient → Commands → Type 0
 Readable p values ReadHardwareId = Unit
 Readable p values (ReadFloats addr len) = addr < 2 ^ 16
