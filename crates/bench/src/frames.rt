@@ -1,57 +1,64 @@
 // Requests over the crate packet.
 use crate::line;
-use crate::line::Count;
-use crate::line::Number;
+use crate::line::LONGEST;
 use crate::reply;
 use octets::Written;
 use packet::Received;
 
-// The longest packet or frame that a request takes, and the most room.
-const LONGEST: usize = 1024;
+// Answers a request of this part; 0 where the verb is none of its own.
+pub fn by_verb(verb: &[u8], args: &[u8], out: &mut [u8]) -> usize {
+    match line::which(verb, b"checksum frame plain strict") {
+        1 => checksum(args, out),
+        2 => frame(args, out),
+        3 => plain(args, out),
+        4 => strict(args, out),
+        _ => 0,
+    }
+}
 
-// checksum BYTES
-pub fn checksum(args: &[u8], out: &mut [u8]) -> usize {
+fn checksum(args: &[u8], out: &mut [u8]) -> usize {
+    let bad = line::misfit(args, b"x");
+    if 0 < bad {
+        return reply::bad_argument(bad, out);
+    }
     let mut bytes = [0u8; LONGEST];
-    let Count::Bytes(n) = line::bytes_of(line::first(args), &mut bytes) else {
-        return reply::bad_argument(1, out, 0);
-    };
-    reply::hex(packet::checksum(line::head(&bytes, n)), out, 0)
+    let n = line::bytes(args, 1, &mut bytes);
+    let sum = packet::checksum(line::head(&bytes, n));
+    reply::bytes(&[sum], out, 0)
 }
 
 // frame PACKET ROOM
-pub fn frame(args: &[u8], out: &mut [u8]) -> usize {
+fn frame(args: &[u8], out: &mut [u8]) -> usize {
+    let bad = line::misfit(args, b"xr");
+    if 0 < bad {
+        return reply::bad_argument(bad, out);
+    }
     let mut bytes = [0u8; LONGEST];
     let mut lent = [0xeeu8; LONGEST];
-    let Count::Bytes(n) = line::bytes_of(line::first(args), &mut bytes) else {
-        return reply::bad_argument(1, out, 0);
-    };
-    let Number::Is(room) = line::decimal(line::first(line::rest(args))) else {
-        return reply::bad_argument(2, out, 0);
-    };
-    let room = room as usize;
-    if LONGEST < room {
-        return reply::bad_argument(2, out, 0);
-    }
+    let n = line::bytes(args, 1, &mut bytes);
+    let room = line::size(args, 2);
     let written = packet::frame(line::head(&bytes, n), line::front(&mut lent, room));
-    reply::written(written, line::head(&lent, room), out, 0)
+    reply::written(written, line::head(&lent, room), out)
 }
 
-// plain BYTES
-pub fn plain(args: &[u8], out: &mut [u8]) -> usize {
+fn plain(args: &[u8], out: &mut [u8]) -> usize {
+    let bad = line::misfit(args, b"x");
+    if 0 < bad {
+        return reply::bad_argument(bad, out);
+    }
     let mut bytes = [0u8; LONGEST];
-    let Count::Bytes(n) = line::bytes_of(line::first(args), &mut bytes) else {
-        return reply::bad_argument(1, out, 0);
-    };
+    let n = line::bytes(args, 1, &mut bytes);
     let frame = line::head(&bytes, n);
     received(packet::unframe(frame), frame, out)
 }
 
-// strict BYTES
-pub fn strict(args: &[u8], out: &mut [u8]) -> usize {
+fn strict(args: &[u8], out: &mut [u8]) -> usize {
+    let bad = line::misfit(args, b"x");
+    if 0 < bad {
+        return reply::bad_argument(bad, out);
+    }
     let mut bytes = [0u8; LONGEST];
-    let Count::Bytes(n) = line::bytes_of(line::first(args), &mut bytes) else {
-        return reply::bad_argument(1, out, 0);
-    };
+    let n = line::bytes(args, 1, &mut bytes);
     let frame = line::head(&bytes, n);
     received(packet::unframe_strict(frame), frame, out)
 }
@@ -60,12 +67,9 @@ pub fn strict(args: &[u8], out: &mut [u8]) -> usize {
 fn received(answer: Received, bytes: &[u8], out: &mut [u8]) -> usize {
     match answer {
         Received::Packet(place) => {
-            let mut end = reply::decimal(place.start as u64, out, 0);
-            end = reply::text(b" ", out, end);
-            end = reply::decimal(place.len as u64, out, end);
-            end = reply::text(b" ", out, end);
+            let end = reply::place(place, out, 0);
             reply::bytes(octets::part(bytes, place), out, end)
         }
-        Received::Refused(number) => reply::refused(number, out, 0),
+        Received::Refused(number) => reply::refused(number, out),
     }
 }

@@ -1,12 +1,18 @@
 // The tester's console: a request a line on standard input, an answer a line on standard output.
 // docs/BENCH.md describes its language. Nothing is decided here but how a line is read and how an
 // answer is written: every answer is a library's.
+mod commanding;
 mod console;
+mod devices;
+mod dialects;
 mod frames;
 mod line;
 mod numeric;
+mod records;
 mod reply;
 mod request;
+mod values;
+mod viewing;
 
 fn main() {
     let mut input = [0u8; 65536];

@@ -1,52 +1,39 @@
 // Requests over the crate numbers. Floats come and go as their patterns.
 use crate::line;
-use crate::line::Number;
 use crate::reply;
 use numbers::fixed_point::FixedPoint;
 use numbers::float::from_bits;
 use numbers::float::to_bits;
 use numbers::gain::Gain;
 
-// from_f32 PATTERN
-pub fn from_f32(args: &[u8], out: &mut [u8]) -> usize {
-    let Number::Is(bits) = line::word32(line::first(args)) else {
-        return reply::bad_argument(1, out, 0);
-    };
-    reply::word32(FixedPoint::from_f32(from_bits(bits)).to_u32(), out, 0)
-}
-
-// to_f32 CODE
-pub fn to_f32(args: &[u8], out: &mut [u8]) -> usize {
-    let Number::Is(code) = line::word32(line::first(args)) else {
-        return reply::bad_argument(1, out, 0);
-    };
-    reply::word32(to_bits(FixedPoint::from_u32(code).to_f32()), out, 0)
-}
-
-// gain BYTE
-pub fn gain(args: &[u8], out: &mut [u8]) -> usize {
-    let Number::Is(byte) = line::decimal(line::first(args)) else {
-        return reply::bad_argument(1, out, 0);
-    };
-    if 255 < byte {
-        return reply::bad_argument(1, out, 0);
+// Answers a request of this part; 0 where the verb is none of its own.
+pub fn by_verb(verb: &[u8], args: &[u8], out: &mut [u8]) -> usize {
+    match line::which(verb, b"from_f32 to_f32 gain gain_byte float") {
+        0 => 0,
+        3 => gain(args, out),
+        k => of_word(k, args, out),
     }
-    reply::word32(to_bits(Gain::from_u8(byte as u8).0), out, 0)
 }
 
-// gain_byte PATTERN
-pub fn gain_byte(args: &[u8], out: &mut [u8]) -> usize {
-    let Number::Is(bits) = line::word32(line::first(args)) else {
-        return reply::bad_argument(1, out, 0);
-    };
-    let byte = Gain(from_bits(bits)).to_u8();
-    reply::decimal(byte as u64, out, 0)
+fn gain(args: &[u8], out: &mut [u8]) -> usize {
+    let bad = line::misfit(args, b"b");
+    if 0 < bad {
+        return reply::bad_argument(bad, out);
+    }
+    reply::code(to_bits(Gain::from_u8(line::byte(args, 1)).0), out, 0)
 }
 
-// float PATTERN
-pub fn float(args: &[u8], out: &mut [u8]) -> usize {
-    let Number::Is(bits) = line::word32(line::first(args)) else {
-        return reply::bad_argument(1, out, 0);
-    };
-    reply::word32(to_bits(from_bits(bits)), out, 0)
+// The others take one word of 32 bits.
+fn of_word(verb: usize, args: &[u8], out: &mut [u8]) -> usize {
+    let bad = line::misfit(args, b"w");
+    if 0 < bad {
+        return reply::bad_argument(bad, out);
+    }
+    let word = line::code(args, 1);
+    match verb {
+        1 => reply::code(FixedPoint::from_f32(from_bits(word)).to_u32(), out, 0),
+        2 => reply::code(to_bits(FixedPoint::from_u32(word).to_f32()), out, 0),
+        4 => reply::decimal(Gain(from_bits(word)).to_u8() as u64, out, 0),
+        _ => reply::code(to_bits(from_bits(word)), out, 0),
+    }
 }

@@ -1,9 +1,11 @@
-// The text of an answer. Each function puts its text behind the first `at` bytes of the output and
-// answers where it ends; what has no room is left out.
+// The words of an answer. Each function puts its words behind the first `at` bytes of the output,
+// with a space before each but the first, and answers where they end; what has no room is left out.
 ghost use Prim.Native.Nat.{_≤_};
 ghost use lib.ListN.{length};
+use octets::Place;
 use octets::Written;
 
+// Bytes as they are, with no space before them.
 pub fn text(bytes: &[u8], out: &mut [u8], at: usize) -> usize {
     if out.len() < at {
         return at;
@@ -15,14 +17,36 @@ pub fn text(bytes: &[u8], out: &mut [u8], at: usize) -> usize {
     at + bytes.len()
 }
 
+fn space(out: &mut [u8], at: usize) -> usize {
+    if at == 0 {
+        return 0;
+    }
+    text(b" ", out, at)
+}
+
+pub fn word(bytes: &[u8], out: &mut [u8], at: usize) -> usize {
+    let start = space(out, at);
+    text(bytes, out, start)
+}
+
 pub fn decimal(n: u64, out: &mut [u8], at: usize) -> usize {
     let mut digits = [0u8; 20];
     let count = io::decimal(n, &mut digits);
-    text(&digits[..count], out, at)
+    word(&digits[..count], out, at)
+}
+
+pub fn named(name: &[u8], n: u64, out: &mut [u8], at: usize) -> usize {
+    let end = word(name, out, at);
+    decimal(n, out, end)
+}
+
+pub fn place(place: Place, out: &mut [u8], at: usize) -> usize {
+    let end = decimal(place.start as u64, out, at);
+    decimal(place.len as u64, out, end)
 }
 
 // A byte as two digits.
-pub fn hex(byte: u8, out: &mut [u8], at: usize) -> usize {
+fn pair(byte: u8, out: &mut [u8], at: usize) -> usize {
     text(&[digit(byte / 16), digit(byte % 16)], out, at)
 }
 
@@ -36,43 +60,40 @@ fn digit(value: u8) -> u8 {
 // Bytes as pairs of digits, none as `-`.
 pub fn bytes(part: &[u8], out: &mut [u8], at: usize) -> usize {
     if part.len() == 0 {
-        return text(b"-", out, at);
+        return word(b"-", out, at);
     }
-    let mut end = at;
+    let mut end = space(out, at);
     let mut i = 0;
     while i < part.len() {
-        end = hex(part[i], out, end);
+        end = pair(part[i], out, end);
         i += 1;
     }
     end
 }
 
-// A word as eight digits.
-pub fn word32(word: u32, out: &mut [u8], at: usize) -> usize {
+// A word of 32 bits as eight digits.
+pub fn code(word: u32, out: &mut [u8], at: usize) -> usize {
     bytes(&octets::number::big_bytes32(word), out, at)
 }
 
-pub fn refused(number: u8, out: &mut [u8], at: usize) -> usize {
-    let end = text(b"refused ", out, at);
-    decimal(number as u64, out, end)
+pub fn refused(number: u8, out: &mut [u8]) -> usize {
+    named(b"refused", number as u64, out, 0)
 }
 
 // The line is no request: its k-th word behind the verb is not what the verb takes.
-pub fn bad_argument(k: u64, out: &mut [u8], at: usize) -> usize {
-    let end = text(b"bad argument ", out, at);
-    decimal(k, out, end)
+pub fn bad_argument(k: usize, out: &mut [u8]) -> usize {
+    named(b"bad argument", k as u64, out, 0)
 }
 
 // What a function that writes answered, and the whole output that it was lent.
-pub fn written(answer: Written, lent: &[u8], out: &mut [u8], at: usize) -> usize {
-    let end = count(answer, out, at);
-    let next = text(b" ", out, end);
-    bytes(lent, out, next)
+pub fn written(answer: Written, lent: &[u8], out: &mut [u8]) -> usize {
+    let end = count(answer, out);
+    bytes(lent, out, end)
 }
 
-fn count(answer: Written, out: &mut [u8], at: usize) -> usize {
+fn count(answer: Written, out: &mut [u8]) -> usize {
     match answer {
-        Written::Bytes(n) => decimal(n as u64, out, at),
-        Written::Refused(number) => refused(number, out, at),
+        Written::Bytes(n) => decimal(n as u64, out, 0),
+        Written::Refused(number) => refused(number, out),
     }
 }

@@ -1,10 +1,14 @@
 // One request: its verb says which part of the library answers it.
+use crate::commanding;
+use crate::devices;
+use crate::dialects;
 use crate::frames;
 use crate::line::first;
-use crate::line::is;
 use crate::line::rest;
 use crate::numeric;
 use crate::reply;
+use crate::values;
+use crate::viewing;
 
 // Puts the answer to a line, and a line end, at the start of out, and answers how many bytes that
 // takes. A line that is too long has lost its start.
@@ -24,33 +28,40 @@ fn answer_text(line: &[u8], out: &mut [u8], long: bool) -> usize {
     by_verb(first(line), rest(line), out)
 }
 
+// Each part is asked in turn whether the verb is its own.
 fn by_verb(verb: &[u8], args: &[u8], out: &mut [u8]) -> usize {
-    if is(verb, b"checksum") {
-        return frames::checksum(args, out);
+    let end = frames::by_verb(verb, args, out);
+    if 0 < end {
+        return end;
     }
-    if is(verb, b"frame") {
-        return frames::frame(args, out);
+    let end = numeric::by_verb(verb, args, out);
+    if 0 < end {
+        return end;
     }
-    if is(verb, b"plain") {
-        return frames::plain(args, out);
+    let end = of_commands(verb, args, out);
+    if 0 < end {
+        return end;
     }
-    if is(verb, b"strict") {
-        return frames::strict(args, out);
+    let end = devices::by_verb(verb, args, out);
+    if 0 < end {
+        return end;
     }
-    if is(verb, b"from_f32") {
-        return numeric::from_f32(args, out);
-    }
-    if is(verb, b"to_f32") {
-        return numeric::to_f32(args, out);
-    }
-    if is(verb, b"gain") {
-        return numeric::gain(args, out);
-    }
-    if is(verb, b"gain_byte") {
-        return numeric::gain_byte(args, out);
-    }
-    if is(verb, b"float") {
-        return numeric::float(args, out);
+    let end = viewing::by_verb(verb, args, out);
+    if 0 < end {
+        return end;
     }
     reply::text(b"bad verb", out, 0)
+}
+
+// Commands, and what they are made of.
+fn of_commands(verb: &[u8], args: &[u8], out: &mut [u8]) -> usize {
+    let end = values::by_verb(verb, args, out);
+    if 0 < end {
+        return end;
+    }
+    let end = commanding::by_verb(verb, args, out);
+    if 0 < end {
+        return end;
+    }
+    dialects::by_verb(verb, args, out)
 }

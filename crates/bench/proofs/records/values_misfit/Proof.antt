@@ -1,0 +1,32 @@
+-- Each value before takes three words at most.
+use Prim.Native.Nat.{ℕ, _+_, _-_, _*_, _≤_, _<_}
+use lib.ListN.{length}
+use mathlib.Core.Path.{_≡_}
+use borrow.Author.Needs.{needs}
+use Rattle.bench.proofs.records.values_misfit.Statement.{statement}
+use Rattle.bench.proofs.records.values_misfit.Tie as tie
+
+abbrev Inv-loop : tie.InvT-loop
+Inv-loop words count at₀ i₀ at i = (at ≤ 5 + 3 * i) × (i ≤ count)
+
+abbrev μ-loop : tie.MeasureT-loop
+μ-loop words count at₀ i₀ at i = count - i
+
+pub values-misfit-spec : {M : Type 1} → statement M
+values-misfit-spec =
+    tie.close
+    (tie.spec
+    Inv-loop
+    μ-loop
+    (λ c. search needs)
+    (λ c κs. search needs)
+    (λ c κs. search needs)
+    (λ c. search needs)
+    (λ c. search needs)
+    (λ c. search needs)
+    (λ c κs. search needs)
+    (λ c. search needs)
+    (λ c. search needs)
+    (λ c. search needs)
+    (λ c. search needs)
+    (λ c. search needs))
