@@ -14,6 +14,14 @@ fn lines(path: &str) -> Lines<BufReader<File>> {
     BufReader::new(File::open(path).unwrap_or_else(|e| panic!("{path}: {e}"))).lines()
 }
 
+/// A refusal's number, and an output that is as it was lent.
+fn is_refusal(found: &str) -> bool {
+    let mut words = found.split(' ');
+    words.next() == Some("refused")
+        && words.next().is_some()
+        && words.all(|output| output == "-" || output.bytes().all(|digit| digit == b'E'))
+}
+
 /// Where the Rust has an answer the port's is the same; where it has none the port refuses.
 pub fn same(requests: &str, rust: &str, port: &str, out: &mut impl Write) -> bool {
     let (mut rust, mut port) = (lines(rust), lines(port));
@@ -28,7 +36,7 @@ pub fn same(requests: &str, rust: &str, port: &str, out: &mut impl Write) -> boo
             let verb = request.split(' ').next().unwrap();
             let number = found.split(' ').take(2).collect::<Vec<_>>().join(" ");
             *outside.entry(format!("{verb}: {number}")).or_default() += 1;
-            found.starts_with("refused ")
+            is_refusal(&found)
         } else {
             expected == found
         };
