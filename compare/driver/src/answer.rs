@@ -11,8 +11,23 @@ pub mod words;
 use std::panic::{catch_unwind, AssertUnwindSafe};
 
 /// What the Rust has no answer for: it panics or overflows, or document 01 leaves it out of the
-/// domain of the comparison. The port refuses there.
+/// domain of the comparison. The port refuses there, with document 01's number.
 pub const OUTSIDE: &str = "outside";
+
+fn outside(number: u8) -> String {
+    format!("{OUTSIDE} {number}")
+}
+
+/// Document 01's number for the one panic of the Rust that a verb can meet, 0 where there is none.
+fn at_panic(verb: &str) -> u8 {
+    match verb {
+        "addr" | "encode_addr" | "encode" | "encode_frame" => 8,
+        "command" => 4,
+        "get" => 7,
+        "join_memory" | "join_floats" => 15,
+        _ => 0,
+    }
+}
 
 #[derive(Default)]
 pub struct Rust {}
@@ -24,7 +39,7 @@ impl Rust {
         }
         let words: Vec<&str> = line.split_whitespace().collect();
         catch_unwind(AssertUnwindSafe(|| by_verb(words[0], &words[1..])))
-            .unwrap_or_else(|_| OUTSIDE.to_string())
+            .unwrap_or_else(|_| outside(at_panic(words[0])))
     }
 }
 

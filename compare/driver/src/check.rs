@@ -14,11 +14,11 @@ fn lines(path: &str) -> Lines<BufReader<File>> {
     BufReader::new(File::open(path).unwrap_or_else(|e| panic!("{path}: {e}"))).lines()
 }
 
-/// A refusal's number, and an output that is as it was lent.
-fn is_refusal(found: &str) -> bool {
+/// A refusal with this number, and an output that is as it was lent.
+fn is_refusal(found: &str, number: &str) -> bool {
     let mut words = found.split(' ');
     words.next() == Some("refused")
-        && words.next().is_some()
+        && words.next() == Some(number)
         && words.all(|output| output == "-" || output.bytes().all(|digit| digit == b'E'))
 }
 
@@ -32,11 +32,11 @@ pub fn same(requests: &str, rust: &str, port: &str, out: &mut impl Write) -> boo
         let expected = rust.next().map_or("(nothing)".to_string(), Result::unwrap);
         let found = port.next().map_or("(nothing)".to_string(), Result::unwrap);
         compared += 1;
-        let agree = if expected == OUTSIDE {
+        let agree = if let Some(number) = expected.strip_prefix(OUTSIDE) {
+            let number = number.trim();
             let verb = request.split(' ').next().unwrap();
-            let number = found.split(' ').take(2).collect::<Vec<_>>().join(" ");
-            *outside.entry(format!("{verb}: {number}")).or_default() += 1;
-            is_refusal(&found)
+            *outside.entry(format!("{verb}: refused {number}")).or_default() += 1;
+            is_refusal(&found, number)
         } else {
             expected == found
         };

@@ -8,6 +8,9 @@ use facts::probe::DeviceKind::*;
 use facts::source::Source;
 use facts::source::Source::*;
 
+const SOURCES: [u8; 75] =
+    *b"NotInstalled Analog Toslink Spdif Usb Aesebu Rca Xlr Lan I2S Bluetooth Hdmi";
+
 // Answers a request of this part; 0 where the verb is none of its own.
 pub fn by_verb(verb: &[u8], args: &[u8], out: &mut [u8]) -> usize {
     match line::which(verb, b"kind dirac sources source_from source_to eeprom") {
@@ -40,20 +43,27 @@ fn of_device(asked: usize, args: &[u8], out: &mut [u8]) -> usize {
 }
 
 fn put_kind(kind: DeviceKind, out: &mut [u8]) -> usize {
+    let names =
+        b"Generic M4x10Hd M10x10Hd MSharc4x8 M2x4Hd Shd DDRC24 DDRC88BM Nanodigi2x8 C8x12v2 M2x4 Flex
+        FlexHtx";
+    reply::word(line::nth(names, kind_number(kind)), out, 0)
+}
+
+fn kind_number(kind: DeviceKind) -> usize {
     match kind {
-        Generic => reply::word(b"Generic", out, 0),
-        M4x10Hd => reply::word(b"M4x10Hd", out, 0),
-        M10x10Hd => reply::word(b"M10x10Hd", out, 0),
-        MSharc4x8 => reply::word(b"MSharc4x8", out, 0),
-        M2x4Hd => reply::word(b"M2x4Hd", out, 0),
-        Shd => reply::word(b"Shd", out, 0),
-        DDRC24 => reply::word(b"DDRC24", out, 0),
-        DDRC88BM => reply::word(b"DDRC88BM", out, 0),
-        Nanodigi2x8 => reply::word(b"Nanodigi2x8", out, 0),
-        C8x12v2 => reply::word(b"C8x12v2", out, 0),
-        M2x4 => reply::word(b"M2x4", out, 0),
-        Flex => reply::word(b"Flex", out, 0),
-        FlexHtx => reply::word(b"FlexHtx", out, 0),
+        Generic => 1,
+        M4x10Hd => 2,
+        M10x10Hd => 3,
+        MSharc4x8 => 4,
+        M2x4Hd => 5,
+        Shd => 6,
+        DDRC24 => 7,
+        DDRC88BM => 8,
+        Nanodigi2x8 => 9,
+        C8x12v2 => 10,
+        M2x4 => 11,
+        Flex => 12,
+        FlexHtx => 13,
     }
 }
 
@@ -75,29 +85,24 @@ fn put_mapping(info: DeviceInfo, out: &mut [u8]) -> usize {
 }
 
 fn put_source(source: Source, out: &mut [u8], at: usize) -> usize {
-    match source {
-        NotInstalled => reply::word(b"NotInstalled", out, at),
-        Analog => reply::word(b"Analog", out, at),
-        Toslink => reply::word(b"Toslink", out, at),
-        Spdif => reply::word(b"Spdif", out, at),
-        Usb => reply::word(b"Usb", out, at),
-        Aesebu => reply::word(b"Aesebu", out, at),
-        Rca => reply::word(b"Rca", out, at),
-        Xlr => reply::word(b"Xlr", out, at),
-        Lan => reply::word(b"Lan", out, at),
-        I2S => reply::word(b"I2S", out, at),
-        Bluetooth => reply::word(b"Bluetooth", out, at),
-        Hdmi => reply::word(b"Hdmi", out, at),
-    }
+    reply::word(line::nth(&SOURCES, source_number(source)), out, at)
 }
 
-fn source_to(name: &[u8], info: DeviceInfo, out: &mut [u8]) -> usize {
-    let names = b"NotInstalled Analog Toslink Spdif Usb Aesebu Rca Xlr Lan I2S Bluetooth Hdmi";
-    let number = line::which(name, names);
-    if number == 0 {
-        return reply::bad_argument(3, out);
+fn source_number(source: Source) -> usize {
+    match source {
+        NotInstalled => 1,
+        Analog => 2,
+        Toslink => 3,
+        Spdif => 4,
+        Usb => 5,
+        Aesebu => 6,
+        Rca => 7,
+        Xlr => 8,
+        Lan => 9,
+        I2S => 10,
+        Bluetooth => 11,
+        Hdmi => 12,
     }
-    reply::decimal(source_of(number).to_id(info) as u64, out, 0)
 }
 
 fn source_of(number: usize) -> Source {
@@ -117,24 +122,39 @@ fn source_of(number: usize) -> Source {
     }
 }
 
-// eeprom: each address under its name.
-fn addresses(out: &mut [u8]) -> usize {
-    let mut end = put_address(b"FIRMWARE_VERSION", eeprom::FIRMWARE_VERSION, out, 0);
-    end = put_address(b"TIMESTAMP", eeprom::TIMESTAMP, out, end);
-    end = put_address(b"TIMESTAMP_2X4", eeprom::TIMESTAMP_2X4, out, end);
-    end = put_address(b"PRESET", eeprom::PRESET, out, end);
-    end = put_address(b"SOURCE", eeprom::SOURCE, out, end);
-    end = put_address(b"SOURCE_ASYNC", eeprom::SOURCE_ASYNC, out, end);
-    more_addresses(out, end)
+fn source_to(name: &[u8], info: DeviceInfo, out: &mut [u8]) -> usize {
+    let number = line::which(name, &SOURCES);
+    if number == 0 {
+        return reply::bad_argument(3, out);
+    }
+    reply::decimal(source_of(number).to_id(info) as u64, out, 0)
 }
 
-fn more_addresses(out: &mut [u8], at: usize) -> usize {
-    let mut end = put_address(b"MASTER_VOLUME", eeprom::MASTER_VOLUME, out, at);
-    end = put_address(b"MUTE", eeprom::MUTE, out, end);
-    end = put_address(b"DIRAC_BYPASS", eeprom::DIRAC_BYPASS, out, end);
-    end = put_address(b"CHANNEL_MODE", eeprom::CHANNEL_MODE, out, end);
-    end = put_address(b"SERIAL", eeprom::SERIAL, out, end);
-    put_address(b"SERIAL_SHORT", eeprom::SERIAL_SHORT, out, end)
+// eeprom: each address behind its name.
+fn addresses(out: &mut [u8]) -> usize {
+    let names = b"FIRMWARE_VERSION TIMESTAMP TIMESTAMP_2X4 PRESET SOURCE SOURCE_ASYNC
+        MASTER_VOLUME MUTE DIRAC_BYPASS CHANNEL_MODE SERIAL SERIAL_SHORT";
+    let all = [
+        eeprom::FIRMWARE_VERSION,
+        eeprom::TIMESTAMP,
+        eeprom::TIMESTAMP_2X4,
+        eeprom::PRESET,
+        eeprom::SOURCE,
+        eeprom::SOURCE_ASYNC,
+        eeprom::MASTER_VOLUME,
+        eeprom::MUTE,
+        eeprom::DIRAC_BYPASS,
+        eeprom::CHANNEL_MODE,
+        eeprom::SERIAL,
+        eeprom::SERIAL_SHORT,
+    ];
+    let mut end = 0;
+    let mut i = 0;
+    while i < 12 {
+        end = put_address(line::nth(names, i + 1), all[i], out, end);
+        i += 1;
+    }
+    end
 }
 
 fn put_address(name: &[u8], address: u16, out: &mut [u8], at: usize) -> usize {

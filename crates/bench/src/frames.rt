@@ -10,8 +10,8 @@ pub fn by_verb(verb: &[u8], args: &[u8], out: &mut [u8]) -> usize {
     match line::which(verb, b"checksum frame plain strict") {
         1 => checksum(args, out),
         2 => frame(args, out),
-        3 => plain(args, out),
-        4 => strict(args, out),
+        3 => receive(args, false, out),
+        4 => receive(args, true, out),
         _ => 0,
     }
 }
@@ -41,7 +41,8 @@ fn frame(args: &[u8], out: &mut [u8]) -> usize {
     reply::written(written, line::head(&lent, room), out)
 }
 
-fn plain(args: &[u8], out: &mut [u8]) -> usize {
+// plain BYTES, strict BYTES
+fn receive(args: &[u8], strict: bool, out: &mut [u8]) -> usize {
     let bad = line::misfit(args, b"x");
     if 0 < bad {
         return reply::bad_argument(bad, out);
@@ -49,22 +50,18 @@ fn plain(args: &[u8], out: &mut [u8]) -> usize {
     let mut bytes = [0u8; LONGEST];
     let n = line::bytes(args, 1, &mut bytes);
     let frame = line::head(&bytes, n);
-    received(packet::unframe(frame), frame, out)
+    put_received(received(frame, strict), frame, out)
 }
 
-fn strict(args: &[u8], out: &mut [u8]) -> usize {
-    let bad = line::misfit(args, b"x");
-    if 0 < bad {
-        return reply::bad_argument(bad, out);
+fn received(frame: &[u8], strict: bool) -> Received {
+    if strict {
+        return packet::unframe_strict(frame);
     }
-    let mut bytes = [0u8; LONGEST];
-    let n = line::bytes(args, 1, &mut bytes);
-    let frame = line::head(&bytes, n);
-    received(packet::unframe_strict(frame), frame, out)
+    packet::unframe(frame)
 }
 
 // A packet's place and the packet itself.
-fn received(answer: Received, bytes: &[u8], out: &mut [u8]) -> usize {
+fn put_received(answer: Received, bytes: &[u8], out: &mut [u8]) -> usize {
     match answer {
         Received::Packet(place) => {
             let end = reply::place(place, out, 0);

@@ -62,12 +62,13 @@ pub fn nth(line: &[u8], k: usize) -> &[u8] {
 
 // Which of the names a word is, counted from 1, and 0 for none of them.
 pub fn which(word: &[u8], names: &[u8]) -> usize {
-    if word.len() == 0 {
-        return 0;
-    }
     let mut k = 1;
     while k < MANY {
-        if is(word, nth(names, k)) {
+        let name = nth(names, k);
+        if name.len() == 0 {
+            return 0;
+        }
+        if is(word, name) {
             return k;
         }
         k += 1;

@@ -8,10 +8,11 @@ use numbers::gain::Gain;
 
 // Answers a request of this part; 0 where the verb is none of its own.
 pub fn by_verb(verb: &[u8], args: &[u8], out: &mut [u8]) -> usize {
-    match line::which(verb, b"from_f32 to_f32 gain gain_byte float") {
+    match line::which(verb, b"from_f32 to_f32 float gain_byte gain") {
         0 => 0,
-        3 => gain(args, out),
-        k => of_word(k, args, out),
+        4 => gain_byte(args, out),
+        5 => gain(args, out),
+        asked => of_word(asked, args, out),
     }
 }
 
@@ -23,17 +24,28 @@ fn gain(args: &[u8], out: &mut [u8]) -> usize {
     reply::code(to_bits(Gain::from_u8(line::byte(args, 1)).0), out, 0)
 }
 
-// The others take one word of 32 bits.
-fn of_word(verb: usize, args: &[u8], out: &mut [u8]) -> usize {
+fn gain_byte(args: &[u8], out: &mut [u8]) -> usize {
     let bad = line::misfit(args, b"w");
     if 0 < bad {
         return reply::bad_argument(bad, out);
     }
-    let word = line::code(args, 1);
-    match verb {
-        1 => reply::code(FixedPoint::from_f32(from_bits(word)).to_u32(), out, 0),
-        2 => reply::code(to_bits(FixedPoint::from_u32(word).to_f32()), out, 0),
-        4 => reply::decimal(Gain(from_bits(word)).to_u8() as u64, out, 0),
-        _ => reply::code(to_bits(from_bits(word)), out, 0),
+    let byte = Gain(from_bits(line::code(args, 1))).to_u8();
+    reply::decimal(byte as u64, out, 0)
+}
+
+// The others have a word for a word.
+fn of_word(asked: usize, args: &[u8], out: &mut [u8]) -> usize {
+    let bad = line::misfit(args, b"w");
+    if 0 < bad {
+        return reply::bad_argument(bad, out);
+    }
+    reply::code(word_for(asked, line::code(args, 1)), out, 0)
+}
+
+fn word_for(asked: usize, word: u32) -> u32 {
+    match asked {
+        1 => FixedPoint::from_f32(from_bits(word)).to_u32(),
+        2 => to_bits(FixedPoint::from_u32(word).to_f32()),
+        _ => to_bits(from_bits(word)),
     }
 }

@@ -7,9 +7,8 @@ use minidsp_protocol::{
 
 use super::{
     fields::{addr, addr_words, value_words, Lent},
-    records,
+    outside, records,
     words::{bit, bytes, float, half, hex32, number, refused, unwritten, written, LONGEST},
-    OUTSIDE,
 };
 
 pub fn answer(verb: &str, args: &[&str]) -> Option<String> {
@@ -32,7 +31,7 @@ pub fn answer(verb: &str, args: &[&str]) -> Option<String> {
 
 fn command(packet: &[u8]) -> String {
     if packet.len() > LONGEST {
-        return OUTSIDE.to_string();
+        return outside(5);
     }
     match Commands::from_bytes(Bytes::copy_from_slice(packet)) {
         Ok(command) => records::words(&command, packet),
@@ -51,7 +50,7 @@ fn encode(args: &[&str], finish: fn(&[u8]) -> Bytes) -> String {
         return unwritten(7, room);
     }
     if packet.len() > LONGEST {
-        return OUTSIDE.to_string();
+        return outside(5);
     }
     written(&finish(&packet), room)
 }

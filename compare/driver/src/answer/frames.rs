@@ -3,8 +3,8 @@ use bytes::Bytes;
 use minidsp_protocol::packet::{self, ParseError};
 
 use super::{
+    outside,
     words::{bytes, hex, number, refused, written, LONGEST},
-    OUTSIDE,
 };
 
 pub fn answer(verb: &str, args: &[&str]) -> Option<String> {
@@ -19,7 +19,7 @@ pub fn answer(verb: &str, args: &[&str]) -> Option<String> {
 
 fn frame(packet: &[u8], room: usize) -> String {
     if packet.len() > LONGEST {
-        return OUTSIDE.to_string();
+        return outside(5);
     }
     written(&packet::frame(packet), room)
 }
