@@ -2,7 +2,6 @@
 use crate::line;
 use crate::line::LONGEST;
 use crate::reply;
-use octets::Written;
 use packet::Received;
 
 // Answers a request of this part; 0 where the verb is none of its own.

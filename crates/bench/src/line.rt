@@ -14,17 +14,17 @@ pub const LONGEST: usize = 1024;
 const MANY: usize = 64;
 
 // Where a word stands: from start up to, and without, end.
-pub struct Span {
-    pub start: usize,
-    pub end: usize,
+struct Span {
+    start: usize,
+    end: usize,
 }
 
-pub enum Number {
+enum Number {
     Is(u32),
     Bad,
 }
 
-pub enum Count {
+enum Count {
     Bytes(usize),
     Bad,
 }
@@ -117,7 +117,7 @@ fn is_space(byte: u8) -> bool {
     byte == b' ' || byte == b'\n'
 }
 
-pub fn is(word: &[u8], name: &[u8]) -> bool {
+fn is(word: &[u8], name: &[u8]) -> bool {
     if word.len() != name.len() {
         return false;
     }
@@ -148,7 +148,7 @@ pub fn misfit(words: &[u8], shape: &[u8]) -> usize
     0
 }
 
-pub fn fits(word: &[u8], letter: u8) -> bool {
+fn fits(word: &[u8], letter: u8) -> bool {
     match letter {
         b'x' => is_bytes(word),
         b'w' => is_to(word32(word), 0xffff_ffff),

@@ -11,21 +11,27 @@ use fields::value::Value;
 use numbers::float::from_bits;
 use numbers::float::to_bits;
 use numbers::gain::Gain;
-use octets::Place;
 
 // The value of Write, and the first of the five of WriteBiquad, is the record's fifth word.
 const FIRST_VALUE: usize = 5;
 
 // The kinds in an order of our own: with no field, with numbers and a place, with bytes and bits, with
-// an address.
+// an address. Behind them, the shapes of their fields but for values.
+const KINDS: [u8; 239] = *b"ReadHardwareId FirLoadEnd
+    ReadFloats ReadMemory WriteMemory FirLoadData Unknown BulkLoad BulkLoadFilterData
+    SetConfig SetSource SetMute SetVolume FirLoadStart DiracBypass Unk07
+    WriteBiquadBypass Read SwitchMux Write WriteBiquad";
+
+const SHAPES: [u8; 67] = *b"- - hb hb hnn bnn bnn nn nn bt b t w b b b btwt btwb btwbtb btw btw";
+
+// A record but for its values: which of the kinds it is, and its fields as numbers.
+struct Record {
+    kind: usize,
+    fields: [u64; 6],
+}
+
 fn kind_of(words: &[u8]) -> usize {
-    line::which(
-        line::first(words),
-        b"ReadHardwareId FirLoadEnd
-        ReadFloats ReadMemory WriteMemory FirLoadData Unknown BulkLoad BulkLoadFilterData
-        SetConfig SetSource SetMute SetVolume FirLoadStart DiracBypass Unk07
-        WriteBiquadBypass Read SwitchMux Write WriteBiquad",
-    )
+    line::which(line::first(words), &KINDS)
 }
 
 // The number of the record's first word that is not right, and 0 for none.
@@ -36,8 +42,7 @@ pub fn misfit(words: &[u8]) -> usize
     if kind == 0 {
         return 1;
     }
-    let shapes = b"- - hb hb hnn bnn bnn nn nn bt b t w b b b btwt btwb btwbtb btw btw";
-    let bad = line::misfit(line::rest(words), line::nth(shapes, kind));
+    let bad = line::misfit(line::rest(words), line::nth(&SHAPES, kind));
     if 0 < bad {
         return bad + 1;
     }
@@ -176,92 +181,38 @@ fn with_address(kind: usize, fields: &[u8]) -> Commands {
 
 // The record of a command, in the words in which it is read.
 pub fn put(command: Commands, values: [Coefficient; 5], out: &mut [u8]) -> usize {
+    let end = put_row(row_of(command), out);
     match command {
-        ReadHardwareId => reply::word(b"ReadHardwareId", out, 0),
-        ReadFloats { addr, len } => put_two(b"ReadFloats", addr, len, out),
-        WriteMemory { addr, data } => put_place(b"WriteMemory", addr, data, out),
-        ReadMemory { addr, size } => put_two(b"ReadMemory", addr, size, out),
-        SetConfig { config, reset } => put_two(b"SetConfig", config as u16, reset as u8, out),
-        SetSource { source } => put_byte(b"SetSource", source, out),
-        SetMute { value } => put_byte(b"SetMute", value as u8, out),
-        SetVolume { value } => put_volume(value, out),
-        WriteBiquad { addr } => put_biquad(addr, values, out),
-        WriteBiquadBypass { addr, value } => {
-            put_addressed(b"WriteBiquadBypass", addr, value as u8, out)
-        }
-        Read { addr, len } => put_addressed(b"Read", addr, len, out),
-        Write { addr, value } => put_write(addr, value, out),
-        FirLoadStart { index } => put_byte(b"FirLoadStart", index, out),
-        FirLoadData {
-            index,
-            start,
-            count,
-        } => put_floats(index, start, count, out),
-        FirLoadEnd => reply::word(b"FirLoadEnd", out, 0),
-        DiracBypass { value } => put_byte(b"DiracBypass", value, out),
-        BulkLoad { payload } => put_payload(b"BulkLoad", payload, out),
-        BulkLoadFilterData { payload } => { put_payload(b"BulkLoadFilterData", payload, out) }
-        Unk07 { payload } => put_byte(b"Unk07", payload, out),
-        SwitchMux {
-            addr,
-            max,
-            arg,
-            slot,
-        } => put_mux(addr, max, arg, slot, out),
-        Unknown { cmd_id, payload } => { put_place(b"Unknown", cmd_id as u16, payload, out) }
+        Write { addr: _, value } => values::put_value(value, out, end),
+        WriteBiquad { addr: _ } => put_five(values, out, end),
+        _ => end,
     }
 }
 
-fn put_byte(kind: &[u8], byte: u8, out: &mut [u8]) -> usize {
-    reply::named(kind, byte as u64, out, 0)
+fn put_row(row: Record, out: &mut [u8]) -> usize {
+    let shape = line::nth(&SHAPES, row.kind);
+    let mut end = reply::word(line::nth(&KINDS, row.kind), out, 0);
+    let mut i = 0;
+    while i < shape.len() {
+        if 5 < i {
+            return end;
+        }
+        end = put_field(shape[i], row.fields[i], out, end);
+        i += 1;
+    }
+    end
 }
 
-fn put_two(kind: &[u8], first: u16, second: u8, out: &mut [u8]) -> usize {
-    let end = reply::named(kind, first as u64, out, 0);
-    reply::decimal(second as u64, out, end)
+fn put_field(letter: u8, n: u64, out: &mut [u8], at: usize) -> usize {
+    match letter {
+        b'-' => at,
+        b'w' => reply::code((n % 0x1_0000_0000) as u32, out, at),
+        _ => reply::decimal(n, out, at),
+    }
 }
 
-fn put_place(kind: &[u8], first: u16, place: Place, out: &mut [u8]) -> usize {
-    let end = reply::named(kind, first as u64, out, 0);
-    reply::place(place, out, end)
-}
-
-fn put_payload(kind: &[u8], place: Place, out: &mut [u8]) -> usize {
-    let end = reply::word(kind, out, 0);
-    reply::place(place, out, end)
-}
-
-fn put_floats(index: u8, start: usize, count: usize, out: &mut [u8]) -> usize {
-    let place = Place { start, len: count };
-    put_place(b"FirLoadData", index as u16, place, out)
-}
-
-fn put_volume(gain: Gain, out: &mut [u8]) -> usize {
-    let end = reply::word(b"SetVolume", out, 0);
-    reply::code(to_bits(gain.0), out, end)
-}
-
-fn put_addressed(kind: &[u8], addr: Addr, byte: u8, out: &mut [u8]) -> usize {
-    let mut end = reply::word(kind, out, 0);
-    end = values::put_addr(addr, out, end);
-    reply::decimal(byte as u64, out, end)
-}
-
-fn put_mux(addr: Addr, max: u8, arg: bool, slot: u8, out: &mut [u8]) -> usize {
-    let mut end = put_addressed(b"SwitchMux", addr, max, out);
-    end = reply::decimal(arg as u64, out, end);
-    reply::decimal(slot as u64, out, end)
-}
-
-fn put_write(addr: Addr, value: Value, out: &mut [u8]) -> usize {
-    let mut end = reply::word(b"Write", out, 0);
-    end = values::put_addr(addr, out, end);
-    values::put_value(value, out, end)
-}
-
-fn put_biquad(addr: Addr, values: [Coefficient; 5], out: &mut [u8]) -> usize {
-    let mut end = reply::word(b"WriteBiquad", out, 0);
-    end = values::put_addr(addr, out, end);
+fn put_five(values: [Coefficient; 5], out: &mut [u8], at: usize) -> usize {
+    let mut end = at;
     let mut i = 0;
     while i < 5 {
         let coefficient = values[i];
@@ -270,4 +221,58 @@ fn put_biquad(addr: Addr, values: [Coefficient; 5], out: &mut [u8]) -> usize {
         i += 1;
     }
     end
+}
+
+fn row_of(command: Commands) -> Record {
+    match command {
+        ReadHardwareId => row(1, 0, 0, 0),
+        FirLoadEnd => row(2, 0, 0, 0),
+        ReadFloats { addr, len } => row(3, addr as u64, len as u64, 0),
+        ReadMemory { addr, size } => row(4, addr as u64, size as u64, 0),
+        WriteMemory { addr, data } => row(5, addr as u64, data.start as u64, data.len as u64),
+        FirLoadData {
+            index,
+            start,
+            count,
+        } => row(6, index as u64, start as u64, count as u64),
+        Unknown { cmd_id, payload } => {
+            row(7, cmd_id as u64, payload.start as u64, payload.len as u64)
+        }
+        BulkLoad { payload } => row(8, payload.start as u64, payload.len as u64, 0),
+        BulkLoadFilterData { payload } => row(9, payload.start as u64, payload.len as u64, 0),
+        SetConfig { config, reset } => row(10, config as u64, reset as u64, 0),
+        SetSource { source } => row(11, source as u64, 0, 0),
+        SetMute { value } => row(12, value as u64, 0, 0),
+        SetVolume { value } => row(13, to_bits(value.0) as u64, 0, 0),
+        FirLoadStart { index } => row(14, index as u64, 0, 0),
+        DiracBypass { value } => row(15, value as u64, 0, 0),
+        Unk07 { payload } => row(16, payload as u64, 0, 0),
+        WriteBiquadBypass { addr, value } => address_row(17, addr, value as u64, 0, 0),
+        Read { addr, len } => address_row(18, addr, len as u64, 0, 0),
+        SwitchMux {
+            addr,
+            max,
+            arg,
+            slot,
+        } => address_row(19, addr, max as u64, arg as u64, slot as u64),
+        Write { addr, value: _ } => address_row(20, addr, 0, 0, 0),
+        WriteBiquad { addr } => address_row(21, addr, 0, 0, 0),
+    }
+}
+
+fn row(kind: usize, a: u64, b: u64, c: u64) -> Record {
+    Record {
+        kind,
+        fields: [a, b, c, 0, 0, 0],
+    }
+}
+
+fn address_row(kind: usize, addr: Addr, a: u64, b: u64, c: u64) -> Record {
+    let len = addr.len as u64;
+    let bit = addr.extra_bit as u64;
+    let val = addr.val as u64;
+    Record {
+        kind,
+        fields: [len, bit, val, a, b, c],
+    }
 }

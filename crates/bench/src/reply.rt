@@ -1,7 +1,5 @@
 // The words of an answer. Each function puts its words behind the first `at` bytes of the output,
 // with a space before each but the first, and answers where they end; what has no room is left out.
-ghost use Prim.Native.Nat.{_≤_};
-ghost use lib.ListN.{length};
 use octets::Place;
 use octets::Written;
 

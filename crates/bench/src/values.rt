@@ -10,7 +10,6 @@ use fields::value::Value;
 use numbers::fixed_point::FixedPoint;
 use numbers::float::from_bits;
 use numbers::float::to_bits;
-use octets::Written;
 
 // Answers a request of this part; 0 where the verb is none of its own.
 pub fn by_verb(verb: &[u8], args: &[u8], out: &mut [u8]) -> usize {

@@ -2,8 +2,6 @@
 use crate::line;
 use crate::line::LONGEST;
 use crate::reply;
-use octets::Place;
-use octets::Written;
 use views::Part;
 use views::floats;
 use views::floats::FloatBits;
