@@ -28,9 +28,9 @@ pub fn requests(random: &mut Random, line: &mut dyn FnMut(String)) {
         let address = address(random);
         line(format!("mute {address} {}", random.below(2)));
     }
-    for len in 0..=255 {
+    for len in (0..=255).chain([2; 100]).chain([3; 100]) {
         for bit in [0, 1] {
-            let value = random.next() as u32;
+            let value = word(random);
             for room in 0..5 {
                 line(format!("encode_addr {room} {len} {bit} {value:08X}"));
             }

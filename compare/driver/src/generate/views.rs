@@ -6,17 +6,17 @@ const BASES: &[usize] = &[0, 1, 2, 255, 4096, 32767, 32768, 65500, 65530, 65533,
 
 pub fn requests(random: &mut Random, line: &mut dyn FnMut(String)) {
     for &base in BASES {
-        for n in 0..6 {
+        for n in [0usize, 1, 2, 3, 5, 8] {
             for start in 0..n + 2 {
-                for len in 0..n + 2 {
+                for len in 0..n.saturating_sub(start) + 2 {
                     let bytes = hex(&random.bytes(n));
                     read(&format!("{bytes} {base} {start} {len}"), base, len, line);
                 }
             }
         }
-        for n in [0, 3, 4, 5, 8, 12, 13] {
-            for start in 0..4 {
-                for count in 0..5 {
+        for n in [0usize, 3, 4, 5, 8, 13, 24] {
+            for start in [0, 1, 3, 4] {
+                for count in 0..n.saturating_sub(start) / 4 + 2 {
                     let bytes = hex(&random.bytes(n));
                     get(&format!("{bytes} {base} {start} {count}"), base, count, line);
                 }
@@ -36,8 +36,9 @@ fn around(base: usize, len: usize) -> impl Iterator<Item = usize> {
 
 fn read(view: &str, base: usize, len: usize, line: &mut dyn FnMut(String)) {
     for addr in around(base, len) {
-        for n in [0, 1, 2, len.saturating_sub(1), len, len + 1, 255] {
-            line(format!("read_at {view} {addr} {n}"));
+        let left = (base + len).saturating_sub(addr);
+        for n in [0, 1, 2, left.saturating_sub(1), left, left + 1, 255] {
+            line(format!("read_at {view} {addr} {}", n.min(255)));
         }
         line(format!("read_u8 {view} {addr}"));
         line(format!("read_u16 {view} {addr}"));
@@ -68,7 +69,7 @@ fn joins(random: &mut Random, line: &mut dyn FnMut(String)) {
     for &base in BASES {
         for len in 0..8 {
             for other_len in 0..5 {
-                for _ in 0..3 {
+                for _ in 0..12 {
                     join("join_memory", 1, base, len, other_len, random, line);
                     join("join_floats", 4, base, len, other_len, random, line);
                 }
