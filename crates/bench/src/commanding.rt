@@ -1,9 +1,9 @@
 // Requests over the crate commands.
 use crate::line;
-use crate::line::LONGEST;
 use crate::records;
 use crate::reply;
 use crate::values;
+use crate::word::LONGEST;
 use commands::Commands;
 use commands::decode::Parsed;
 use fields::value::Coefficient;

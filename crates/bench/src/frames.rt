@@ -1,7 +1,7 @@
 // Requests over the crate packet.
 use crate::line;
-use crate::line::LONGEST;
 use crate::reply;
+use crate::word::LONGEST;
 use packet::Received;
 
 // Answers a request of this part; 0 where the verb is none of its own.

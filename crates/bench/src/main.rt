@@ -13,6 +13,7 @@ mod reply;
 mod request;
 mod values;
 mod viewing;
+mod word;
 
 fn main() {
     let mut input = [0u8; 65536];

@@ -1,8 +1,8 @@
 // Addresses and values in words, and requests over the crate fields.
 ghost use Prim.Native.Nat.{_≤_};
 use crate::line;
-use crate::line::LONGEST;
 use crate::reply;
+use crate::word::LONGEST;
 use fields::addr::Addr;
 use fields::addr::ReadAddr;
 use fields::value::ReadValue;

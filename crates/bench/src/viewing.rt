@@ -1,7 +1,7 @@
 // Requests over the crate views. A view's words are its bytes, its base, and its place in them.
 use crate::line;
-use crate::line::LONGEST;
 use crate::reply;
+use crate::word::LONGEST;
 use views::Part;
 use views::floats;
 use views::floats::FloatBits;

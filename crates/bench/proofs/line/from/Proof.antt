@@ -1,7 +1,5 @@
 -- The words that are left to pass fall.
 use Prim.Native.Nat.{ℕ, _+_, _-_, _*_, _≤_, _<_}
-use lib.ListN.{length}
-use mathlib.Core.Path.{_≡_}
 use borrow.Author.Needs.{needs}
 use Rattle.bench.proofs.line.from.Statement.{statement}
 use Rattle.bench.proofs.line.from.Tie as tie

@@ -1,7 +1,5 @@
 -- The word before the k-th has a letter.
 use Prim.Native.Nat.{ℕ, _+_, _-_, _*_, _≤_, _<_}
-use lib.ListN.{length}
-use mathlib.Core.Path.{_≡_}
 use borrow.Author.Needs.{needs}
 use Rattle.bench.proofs.line.misfit.Statement.{statement}
 use Rattle.bench.proofs.line.misfit.Tie as tie

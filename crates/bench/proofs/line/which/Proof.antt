@@ -1,7 +1,5 @@
 -- The names that are left to try fall.
 use Prim.Native.Nat.{ℕ, _+_, _-_, _*_, _≤_, _<_}
-use lib.ListN.{length}
-use mathlib.Core.Path.{_≡_}
 use borrow.Author.Needs.{needs}
 use Rattle.bench.proofs.line.which.Statement.{statement}
 use Rattle.bench.proofs.line.which.Tie as tie

@@ -1,7 +1,5 @@
 -- Each value before takes three words at most.
 use Prim.Native.Nat.{ℕ, _+_, _-_, _*_, _≤_, _<_}
-use lib.ListN.{length}
-use mathlib.Core.Path.{_≡_}
 use borrow.Author.Needs.{needs}
 use Rattle.bench.proofs.records.values_misfit.Statement.{statement}
 use Rattle.bench.proofs.records.values_misfit.Tie as tie

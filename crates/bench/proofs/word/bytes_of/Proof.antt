@@ -4,8 +4,8 @@ use mathlib.Core.Path.{_≡_}
 use native.Mathlib.Omega.{arith}
 use lib.ListN.{length, length-set}
 use borrow.Author.Needs.{needs}
-use Rattle.bench.proofs.line.bytes_of.Statement.{statement}
-use Rattle.bench.proofs.line.bytes_of.Tie as tie
+use Rattle.bench.proofs.word.bytes_of.Statement.{statement}
+use Rattle.bench.proofs.word.bytes_of.Tie as tie
 
 abbrev Inv-loop : tie.InvT-loop
 Inv-loop word out₀ n i₀ out i = (length out ≡ length out₀) × (i ≤ n) × (n ≤ length out) × (length word ≡ 2 * n)

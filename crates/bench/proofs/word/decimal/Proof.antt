@@ -2,8 +2,8 @@
 use Prim.Native.Nat.{ℕ, _+_, _-_, _*_, _≤_, _<_}
 use lib.ListN.{length}
 use borrow.Author.Needs.{needs}
-use Rattle.bench.proofs.line.decimal.Statement.{statement}
-use Rattle.bench.proofs.line.decimal.Tie as tie
+use Rattle.bench.proofs.word.decimal.Statement.{statement}
+use Rattle.bench.proofs.word.decimal.Tie as tie
 
 abbrev Inv-loop : tie.InvT-loop
 Inv-loop word n₀ i₀ n i = i ≤ length word

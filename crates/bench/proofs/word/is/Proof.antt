@@ -3,8 +3,8 @@ use Prim.Native.Nat.{ℕ, _+_, _-_, _*_, _≤_, _<_}
 use lib.ListN.{length}
 use mathlib.Core.Path.{_≡_}
 use borrow.Author.Needs.{needs}
-use Rattle.bench.proofs.line.is.Statement.{statement}
-use Rattle.bench.proofs.line.is.Tie as tie
+use Rattle.bench.proofs.word.is.Statement.{statement}
+use Rattle.bench.proofs.word.is.Tie as tie
 
 abbrev Inv-loop : tie.InvT-loop
 Inv-loop word name i₀ i = (length word ≡ length name) × (i ≤ length name)
