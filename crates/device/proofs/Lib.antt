@@ -1,2 +1,5 @@
 pub mod Written
 pub mod Words
+pub mod Stores
+pub mod Payload
+pub mod Answers

@@ -25,11 +25,6 @@ use Rattle.responses.specs.declared.Responses.the-variants.{Ack, Read as ReadRe
 use Rattle.responses.specs.declared.Values.the-variants.{One}
 use Rattle.device.specs.Memory.{Write, bytes, word}
 use Rattle.device.specs.declared.Device.{Device}
-use Rattle.device.specs.declared.effect.Write.{Write as Stores}
-use Rattle.device.specs.declared.effect.Write.the-variants.{Nothing, Byte, Bytes, Word}
-use Rattle.device.specs.declared.effect.Effect.{Effect as Does}
-use Rattle.device.specs.declared.effect.Decided.{Decided}
-use Rattle.device.specs.declared.effect.Decided.the-variants.{Does as IsDone, Refused}
 
 pub record Effect : Type 0 where
   pub response : Responses
@@ -37,17 +32,6 @@ pub record Effect : Type 0 where
 
 abbrev pub effect : Responses → List Write → Effect
 effect response writes = record { response = response; writes = writes }
-
--- what the code's answer stands for
-abbrev pub writesOf : List ℕ → Stores → List Write
-writesOf p Nothing = []
-writesOf p (Byte a value) = bytes a (value ∷ []) ∷ []
-writesOf p (Bytes a place) = bytes a (partOf p place) ∷ []
-writesOf p (Word a value) = word a value ∷ []
-
-abbrev pub decided : List ℕ → Decided → Outcome Effect
-decided p (IsDone d) = accepted (effect (d .response) (writesOf p (d .write)))
-decided p (Refused k) = refused k
 
 -- an answer alone: "All other commands answer as `MockDevice::execute` does and name nothing."
 abbrev pub tellsOf : Responses → Effect

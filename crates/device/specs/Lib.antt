@@ -1,3 +1,6 @@
 pub mod Memory
 pub mod Calls
 pub mod Effect
+pub mod Data
+pub mod Execute
+pub mod Decided

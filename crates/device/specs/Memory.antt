@@ -1,10 +1,10 @@
 -- The memories of a processor. "EEPROM has E bytes, settings S words"
-use Prim.Native.Nat.{ℕ, _+_}
+use Prim.Native.Nat.{ℕ}
 use mathlib.Core.Bool.{Bool, true, false}
 use mathlib.Core.List.{List, [], _∷_}
 use lib.ListN.{length}
 use Rattle.octets.specs.Choice.{ifLt}
-use Rattle.octets.specs.Over.{overAt}
+use Rattle.octets.specs.Over.{intoAt}
 
 pub record Memory : Type 0 where
   pub eeprom : List ℕ
@@ -25,9 +25,13 @@ pub data Write : Type 0 where
   bytes : ℕ → List ℕ → Write
   word : ℕ → ℕ → Write
 
+-- written over what stands there; where that is outside, nothing
+abbrev pub putAt : ℕ → List ℕ → List ℕ → List ℕ
+putAt a b memory = intoAt a b memory .1
+
 abbrev pub put : Write → Memory → Memory
-put (bytes a b) m = memory (overAt a b (m .eeprom)) (m .settings)
-put (word a w) m = memory (m .eeprom) (overAt a (w ∷ []) (m .settings))
+put (bytes a b) m = memory (putAt a b (m .eeprom)) (m .settings)
+put (word a w) m = memory (m .eeprom) (putAt a (w ∷ []) (m .settings))
 
 -- one after the other
 abbrev pub store : List Write → Memory → Memory

@@ -5,11 +5,13 @@ ghost use mathlib.Core.List.{List};
 ghost use Prim.Native.Nat.{ℕ, _≤_};
 ghost use lib.Dec.{eqb};
 ghost use lib.ListN.{length};
-ghost use Rattle.octets.specs.Outcome.{accepted};
 ghost use Rattle.octets.specs.Number.{littleAt};
 ghost use Rattle.fields.specs.Value.{valueBytes, valueOutside};
 ghost use Rattle.responses.specs.declared.Responses.the-variants.{FirLoadSize};
-ghost use Rattle.device.specs.Effect.{decided, effectOf, takenOf, tellsOf, identityOf, readingOf, readMemory, writeMemory, readFloats, writeWord, setByte};
+ghost use Rattle.device.specs.declared.effect.Write.the-variants.{Nothing};
+ghost use Rattle.device.specs.Data.{dataLength};
+ghost use Rattle.device.specs.Decided.{decided, does, answerLength};
+ghost use Rattle.device.specs.Effect.{effectOf, takenOf, identityOf, readingOf, readMemory, writeMemory, readFloats, writeWord, setByte};
 use crate::Device;
 use crate::MOST;
 use commands::Commands;
@@ -56,7 +58,7 @@ const READ: u32 = 0x0028_7A26;
 
 // A payload of the answer, from eeprom or settings, stands at the start of its own bytes.
 pub fn decide(device: Device, command: Commands, payload: &[u8], e: usize, s: usize) -> Decided
-    ensures { λ r. ⌜ decided (now (payload .entry)) r ≡ effectOf device (now (payload .entry)) e s command ⌝ }
+    ensures { λ r. ⌜ (decided (now (payload .entry)) r ≡ effectOf device (now (payload .entry)) e s command) × (answerLength r ≤ 1020) ⌝ }
 {
     match command {
         Commands::ReadHardwareId => tells(identity(device)),
@@ -84,7 +86,7 @@ pub fn decide(device: Device, command: Commands, payload: &[u8], e: usize, s: us
 }
 
 fn tells(response: Responses) -> Decided
-    ensures { λ r. ⌜ ((p : List ℕ) → decided p r ≡ accepted (tellsOf response)) ⌝ }
+    ensures { λ r. ⌜ r ≡ does response Nothing ⌝ }
 {
     Decided::Does(Effect {
         response,
@@ -131,7 +133,7 @@ pub fn taken(addr: u16, size: usize) -> usize
 }
 
 fn read_memory(base: u16, size: u8, e: usize) -> Decided
-    ensures { λ r. ⌜ ((p : List ℕ) → decided p r ≡ readMemory e base size) ⌝ }
+    ensures { λ r. ⌜ ((p : List ℕ) → decided p r ≡ readMemory e base size) × (answerLength r ≤ 1020) ⌝ }
 {
     let len = size as usize;
     if e < base as usize + taken(base, len) {
@@ -142,7 +144,7 @@ fn read_memory(base: u16, size: u8, e: usize) -> Decided
 }
 
 fn read_floats(base: u16, len: u8, s: usize) -> Decided
-    ensures { λ r. ⌜ ((p : List ℕ) → decided p r ≡ readFloats s base len) ⌝ }
+    ensures { λ r. ⌜ ((p : List ℕ) → decided p r ≡ readFloats s base len) × (answerLength r ≤ 1020) ⌝ }
 {
     let count = len as usize;
     if s < base as usize + count {
@@ -153,7 +155,7 @@ fn read_floats(base: u16, len: u8, s: usize) -> Decided
 }
 
 fn write_memory(addr: u16, data: Place, payload: &[u8], e: usize) -> Decided
-    ensures { λ r. ⌜ decided (now (payload .entry)) r ≡ writeMemory (now (payload .entry)) e addr «data» ⌝ }
+    ensures { λ r. ⌜ (decided (now (payload .entry)) r ≡ writeMemory (now (payload .entry)) e addr «data») × (answerLength r ≤ 1020) ⌝ }
 {
     if octets::outside(data, payload.len()) {
         return Decided::Refused(refusal::OUTSIDE);
@@ -171,7 +173,7 @@ fn write_memory(addr: u16, data: Place, payload: &[u8], e: usize) -> Decided
 }
 
 fn set_byte(addr: u16, value: u8, e: usize, response: Responses) -> Decided
-    ensures { λ r. ⌜ ((p : List ℕ) → decided p r ≡ setByte e addr value response) ⌝ }
+    ensures { λ r. ⌜ ((p : List ℕ) → decided p r ≡ setByte e addr value response) × (answerLength r ≤ dataLength response) ⌝ }
 {
     if (addr as usize) < e {
         return Decided::Does(Effect {
@@ -184,7 +186,7 @@ fn set_byte(addr: u16, value: u8, e: usize, response: Responses) -> Decided
 
 // A value of another length than four names nothing.
 fn write_word(addr: u32, value: Value, payload: &[u8], s: usize) -> Decided
-    ensures { λ r. ⌜ decided (now (payload .entry)) r ≡ writeWord (now (payload .entry)) s addr value ⌝ }
+    ensures { λ r. ⌜ (decided (now (payload .entry)) r ≡ writeWord (now (payload .entry)) s addr value) × (answerLength r ≤ 1020) ⌝ }
 {
     if value.is_outside(payload.len()) {
         return Decided::Refused(refusal::OUTSIDE);

@@ -3,7 +3,9 @@ ghost use mathlib.Core.Path.{_≡_};
 ghost use Rattle.device.specs.Memory.{wrongSizes};
 use facts::probe::DeviceKind;
 
+mod data;
 mod effect;
+pub mod execute;
 pub mod memory;
 
 // What a device is beside its memories, the EEPROM (bytes) and the settings (words).

@@ -1,0 +1,32 @@
+-- What the enums of effect.rt stand for.
+use Prim.Native.Nat.{ℕ}
+use mathlib.Core.List.{List, [], _∷_}
+use Rattle.octets.specs.Outcome.{Outcome, accepted, refused}
+use Rattle.octets.specs.Place.{partOf}
+use Rattle.responses.specs.declared.Responses.{Responses}
+use Rattle.device.specs.Memory.{Write, bytes, word}
+use Rattle.device.specs.Effect.{Effect, effect}
+use Rattle.device.specs.Data.{dataLength}
+use Rattle.device.specs.declared.effect.Write.{Write as Stores}
+use Rattle.device.specs.declared.effect.Write.the-variants.{Nothing, Byte, Bytes, Word}
+use Rattle.device.specs.declared.effect.Decided.{Decided}
+use Rattle.device.specs.declared.effect.Decided.the-variants.{Does, Refused}
+
+-- p is the command's payload
+abbrev pub writesOf : List ℕ → Stores → List Write
+writesOf p Nothing = []
+writesOf p (Byte a value) = bytes a (value ∷ []) ∷ []
+writesOf p (Bytes a place) = bytes a (partOf p place) ∷ []
+writesOf p (Word a value) = word a value ∷ []
+
+abbrev pub decided : List ℕ → Decided → Outcome Effect
+decided p (Does d) = accepted (effect (d .response) (writesOf p (d .write)))
+decided p (Refused k) = refused k
+
+abbrev pub does : Responses → Stores → Decided
+does response write = Does (record { response = response; write = write })
+
+-- how long the payload of the answer is at most
+abbrev pub answerLength : Decided → ℕ
+answerLength (Does d) = dataLength (d .response)
+answerLength (Refused k) = 0
