@@ -106,7 +106,7 @@ impl Source {
 }
 
 // A number of its own for each source, to tell them apart.
-fn number(source: Source) -> u8
+pub fn number(source: Source) -> u8
     ensures { λ r. ⌜ r ≡ sourceNumber source ⌝ }
 {
     match source {
