@@ -1,10 +1,13 @@
 //! Answers requests of the program `bench` from the Rust. docs/BENCH.md describes the language.
+mod answers;
 mod commands;
+mod encoding;
 mod facts;
 mod fields;
 mod frames;
 mod numbers;
 mod records;
+mod responses;
 mod views;
 pub mod words;
 
@@ -21,7 +24,8 @@ fn outside(number: u8) -> String {
 /// Document 01's number for the one panic of the Rust that a verb can meet, 0 where there is none.
 fn at_panic(verb: &str) -> u8 {
     match verb {
-        "addr" | "encode_addr" | "encode" | "encode_frame" => 8,
+        "addr" | "encode_addr" | "encode" | "encode_frame" | "encode_response"
+        | "encode_response_frame" => 8,
         "command" => 4,
         "get" => 7,
         "join_memory" | "join_floats" => 15,
@@ -49,7 +53,9 @@ fn by_verb(verb: &str, args: &[&str]) -> String {
         .or_else(|| numbers::answer(verb, args))
         .or_else(|| fields::answer(verb, args))
         .or_else(|| commands::answer(verb, args))
+        .or_else(|| encoding::answer(verb, args))
         .or_else(|| facts::answer(verb, args))
         .or_else(|| views::answer(verb, args))
+        .or_else(|| responses::answer(verb, args))
         .unwrap_or_else(|| "(no such request)".to_string())
 }

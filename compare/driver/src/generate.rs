@@ -4,6 +4,7 @@ mod facts;
 mod frames;
 mod numbers;
 mod records;
+mod responses;
 mod views;
 
 use std::io::Write;
@@ -18,6 +19,7 @@ pub const PARTS: &[(&str, Part)] = &[
     ("records", records::requests),
     ("facts", facts::requests),
     ("views", views::requests),
+    ("responses", responses::requests),
 ];
 
 pub fn part(name: &str, seed: u64, out: &mut impl Write) {

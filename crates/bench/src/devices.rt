@@ -20,19 +20,24 @@ pub fn by_verb(verb: &[u8], args: &[u8], out: &mut [u8]) -> usize {
     }
 }
 
+// The words HW DSP.
+pub fn info_of(words: &[u8]) -> DeviceInfo {
+    DeviceInfo {
+        hw_id: line::byte(words, 1),
+        fw_major: 0,
+        fw_minor: 0,
+        dsp_version: line::byte(words, 2),
+        serial: 0,
+    }
+}
+
 // kind HW DSP, dirac HW DSP, sources HW DSP, source_from HW DSP ID, source_to HW DSP SOURCE
 fn of_device(asked: usize, args: &[u8], out: &mut [u8]) -> usize {
     let bad = line::misfit(args, line::nth(b"bb bb bb bbb bb", asked));
     if 0 < bad {
         return reply::bad_argument(bad, out);
     }
-    let info = DeviceInfo {
-        hw_id: line::byte(args, 1),
-        fw_major: 0,
-        fw_minor: 0,
-        dsp_version: line::byte(args, 2),
-        serial: 0,
-    };
+    let info = info_of(args);
     match asked {
         1 => put_kind(info.device_kind(), out),
         2 => reply::decimal(info.supports_dirac() as u64, out, 0),
@@ -84,25 +89,10 @@ fn put_mapping(info: DeviceInfo, out: &mut [u8]) -> usize {
     end
 }
 
-fn put_source(source: Source, out: &mut [u8], at: usize) -> usize {
-    reply::word(line::nth(&SOURCES, source_number(source)), out, at)
-}
-
-fn source_number(source: Source) -> usize {
-    match source {
-        NotInstalled => 1,
-        Analog => 2,
-        Toslink => 3,
-        Spdif => 4,
-        Usb => 5,
-        Aesebu => 6,
-        Rca => 7,
-        Xlr => 8,
-        Lan => 9,
-        I2S => 10,
-        Bluetooth => 11,
-        Hdmi => 12,
-    }
+// The sources' own numbers count from 0.
+pub fn put_source(source: Source, out: &mut [u8], at: usize) -> usize {
+    let k = facts::source::number(source) as usize + 1;
+    reply::word(line::nth(&SOURCES, k), out, at)
 }
 
 fn source_of(number: usize) -> Source {

@@ -1,7 +1,7 @@
 // The words of a request: parts of its line, parted by spaces. A shape says what the words of a
 // request are, a letter a word (word.rt has the letters), and `misfit` holds the words to it. What
 // reads a word then is total: a word that is not what it should be reads as 0.
-ghost use Prim.Native.Nat.{_≤_};
+ghost use Prim.Native.Nat.{_+_, _≤_};
 ghost use lib.ListN.{length};
 use crate::word;
 use octets::Place;
@@ -118,6 +118,17 @@ pub fn misfit(words: &[u8], shape: &[u8]) -> usize
         k += 1;
     }
     0
+}
+
+// The same where n words stand before those that it counts.
+pub fn behind(bad: usize, n: usize) -> usize
+    requires { ⌜ (bad ≤ 100) × (n ≤ 100) ⌝ }
+    ensures { λ r. ⌜ r ≤ bad + n ⌝ }
+{
+    if bad == 0 {
+        return 0;
+    }
+    bad + n
 }
 
 // The k-th word as a number, as one of 16 or 8 bits, as a bit, and as a word of 32 bits.

@@ -1,11 +1,13 @@
 // Commands in words: the kind's name as in the Rust, and its fields in order.
 ghost use Prim.Native.Nat.{_≤_};
 use crate::line;
-use crate::reply;
+use crate::row;
+use crate::row::Row;
+use crate::row::of_address;
+use crate::row::of_numbers;
 use crate::values;
 use commands::Commands;
 use commands::Commands::*;
-use fields::addr::Addr;
 use fields::value::Coefficient;
 use fields::value::Value;
 use numbers::float::from_bits;
@@ -24,29 +26,19 @@ const KINDS: [u8; 239] = *b"ReadHardwareId FirLoadEnd
 
 const SHAPES: [u8; 67] = *b"- - hb hb hnn bnn bnn nn nn bt b t w b b b btwt btwb btwbtb btw btw";
 
-// A record but for its values: which of the kinds it is, and its fields as numbers.
-struct Record {
-    kind: usize,
-    fields: [u64; 6],
-}
-
 fn kind_of(words: &[u8]) -> usize {
-    line::which(line::first(words), &KINDS)
+    row::kind_of(words, &KINDS)
 }
 
 // The number of the record's first word that is not right, and 0 for none.
 pub fn misfit(words: &[u8]) -> usize
     ensures { λ r. ⌜ r ≤ 100 ⌝ }
 {
-    let kind = kind_of(words);
-    if kind == 0 {
-        return 1;
-    }
-    let bad = line::misfit(line::rest(words), line::nth(&SHAPES, kind));
+    let bad = row::misfit(words, &KINDS, &SHAPES);
     if 0 < bad {
-        return bad + 1;
+        return bad;
     }
-    match kind {
+    match kind_of(words) {
         20 => values_misfit(words, 1),
         21 => values_misfit(words, 5),
         _ => 0,
@@ -54,22 +46,45 @@ pub fn misfit(words: &[u8]) -> usize
 }
 
 // The same of the values.
-fn values_misfit(words: &[u8], count: u8) -> usize
+fn values_misfit(words: &[u8], count: usize) -> usize
     requires { ⌜ count ≤ 5 ⌝ }
     ensures { λ r. ⌜ r ≤ 100 ⌝ }
+{
+    let mut i = 0;
+    while i < count {
+        let at = values_end(words, i);
+        let bad = values::value_misfit(line::from(words, at));
+        if 0 < bad {
+            return at + bad - 1;
+        }
+        i += 1;
+    }
+    0
+}
+
+// Which word stands behind the first so many values.
+fn values_end(words: &[u8], count: usize) -> usize
+    requires { ⌜ count ≤ 5 ⌝ }
+    ensures { λ r. ⌜ (5 ≤ r) × (r ≤ 20) ⌝ }
 {
     let mut at = FIRST_VALUE;
     let mut i = 0;
     while i < count {
-        let value = line::from(words, at);
-        let bad = values::value_misfit(value);
-        if 0 < bad {
-            return at + bad - 1;
-        }
-        at += values::value_words(value);
+        at += values::value_words(line::from(words, at));
         i += 1;
     }
-    0
+    at
+}
+
+// How many words the record takes.
+pub fn length(words: &[u8]) -> usize
+    ensures { λ r. ⌜ r ≤ 19 ⌝ }
+{
+    match kind_of(words) {
+        20 => values_end(words, 1) - 1,
+        21 => values_end(words, 5) - 1,
+        _ => row::length(words, &KINDS, &SHAPES),
+    }
 }
 
 // The five values that stand beside a command: those of WriteBiquad.
@@ -78,13 +93,10 @@ pub fn values_of(words: &[u8]) -> [Coefficient; 5] {
         value: Value::Float(0.0),
     };
     let mut all = [zero; 5];
-    let mut at = FIRST_VALUE;
     let mut i = 0;
     while i < 5 {
-        let words = line::from(words, at);
-        let value = values::value_of(words);
+        let value = values::value_of(line::from(words, values_end(words, i)));
         all[i] = Coefficient { value };
-        at += values::value_words(words);
         i += 1;
     }
     all
@@ -181,33 +193,11 @@ fn with_address(kind: usize, fields: &[u8]) -> Commands {
 
 // The record of a command, in the words in which it is read.
 pub fn put(command: Commands, values: [Coefficient; 5], out: &mut [u8]) -> usize {
-    let end = put_row(row_of(command), out);
+    let end = row::put(row_of(command), &KINDS, &SHAPES, out);
     match command {
         Write { addr: _, value } => values::put_value(value, out, end),
         WriteBiquad { addr: _ } => put_five(values, out, end),
         _ => end,
-    }
-}
-
-fn put_row(row: Record, out: &mut [u8]) -> usize {
-    let shape = line::nth(&SHAPES, row.kind);
-    let mut end = reply::word(line::nth(&KINDS, row.kind), out, 0);
-    let mut i = 0;
-    while i < shape.len() {
-        if 5 < i {
-            return end;
-        }
-        end = put_field(shape[i], row.fields[i], out, end);
-        i += 1;
-    }
-    end
-}
-
-fn put_field(letter: u8, n: u64, out: &mut [u8], at: usize) -> usize {
-    match letter {
-        b'-' => at,
-        b'w' => reply::code((n % 0x1_0000_0000) as u32, out, at),
-        _ => reply::decimal(n, out, at),
     }
 }
 
@@ -223,56 +213,49 @@ fn put_five(values: [Coefficient; 5], out: &mut [u8], at: usize) -> usize {
     end
 }
 
-fn row_of(command: Commands) -> Record {
+fn row_of(command: Commands) -> Row {
     match command {
-        ReadHardwareId => row(1, 0, 0, 0),
-        FirLoadEnd => row(2, 0, 0, 0),
-        ReadFloats { addr, len } => row(3, addr as u64, len as u64, 0),
-        ReadMemory { addr, size } => row(4, addr as u64, size as u64, 0),
-        WriteMemory { addr, data } => row(5, addr as u64, data.start as u64, data.len as u64),
+        ReadHardwareId => of_numbers(1, 0, 0, 0),
+        FirLoadEnd => of_numbers(2, 0, 0, 0),
+        ReadFloats { addr, len } => of_numbers(3, addr as u64, len as u64, 0),
+        ReadMemory { addr, size } => of_numbers(4, addr as u64, size as u64, 0),
+        WriteMemory { addr, data } => of_numbers(
+            5,
+            addr as u64,
+            data.start as u64,
+            data.len as u64,
+        ),
         FirLoadData {
             index,
             start,
             count,
-        } => row(6, index as u64, start as u64, count as u64),
+        } => of_numbers(6, index as u64, start as u64, count as u64),
         Unknown { cmd_id, payload } => {
-            row(7, cmd_id as u64, payload.start as u64, payload.len as u64)
+            of_numbers(7, cmd_id as u64, payload.start as u64, payload.len as u64)
         }
-        BulkLoad { payload } => row(8, payload.start as u64, payload.len as u64, 0),
-        BulkLoadFilterData { payload } => row(9, payload.start as u64, payload.len as u64, 0),
-        SetConfig { config, reset } => row(10, config as u64, reset as u64, 0),
-        SetSource { source } => row(11, source as u64, 0, 0),
-        SetMute { value } => row(12, value as u64, 0, 0),
-        SetVolume { value } => row(13, to_bits(value.0) as u64, 0, 0),
-        FirLoadStart { index } => row(14, index as u64, 0, 0),
-        DiracBypass { value } => row(15, value as u64, 0, 0),
-        Unk07 { payload } => row(16, payload as u64, 0, 0),
-        WriteBiquadBypass { addr, value } => address_row(17, addr, value as u64, 0, 0),
-        Read { addr, len } => address_row(18, addr, len as u64, 0, 0),
+        BulkLoad { payload } => of_numbers(8, payload.start as u64, payload.len as u64, 0),
+        BulkLoadFilterData { payload } => of_numbers(
+            9,
+            payload.start as u64,
+            payload.len as u64,
+            0,
+        ),
+        SetConfig { config, reset } => of_numbers(10, config as u64, reset as u64, 0),
+        SetSource { source } => of_numbers(11, source as u64, 0, 0),
+        SetMute { value } => of_numbers(12, value as u64, 0, 0),
+        SetVolume { value } => of_numbers(13, to_bits(value.0) as u64, 0, 0),
+        FirLoadStart { index } => of_numbers(14, index as u64, 0, 0),
+        DiracBypass { value } => of_numbers(15, value as u64, 0, 0),
+        Unk07 { payload } => of_numbers(16, payload as u64, 0, 0),
+        WriteBiquadBypass { addr, value } => of_address(17, addr, value as u64, 0, 0),
+        Read { addr, len } => of_address(18, addr, len as u64, 0, 0),
         SwitchMux {
             addr,
             max,
             arg,
             slot,
-        } => address_row(19, addr, max as u64, arg as u64, slot as u64),
-        Write { addr, value: _ } => address_row(20, addr, 0, 0, 0),
-        WriteBiquad { addr } => address_row(21, addr, 0, 0, 0),
-    }
-}
-
-fn row(kind: usize, a: u64, b: u64, c: u64) -> Record {
-    Record {
-        kind,
-        fields: [a, b, c, 0, 0, 0],
-    }
-}
-
-fn address_row(kind: usize, addr: Addr, a: u64, b: u64, c: u64) -> Record {
-    let len = addr.len as u64;
-    let bit = addr.extra_bit as u64;
-    let val = addr.val as u64;
-    Record {
-        kind,
-        fields: [len, bit, val, a, b, c],
+        } => of_address(19, addr, max as u64, arg as u64, slot as u64),
+        Write { addr, value: _ } => of_address(20, addr, 0, 0, 0),
+        WriteBiquad { addr } => of_address(21, addr, 0, 0, 0),
     }
 }

@@ -74,6 +74,11 @@ pub fn code(word: u32, out: &mut [u8], at: usize) -> usize {
     bytes(&octets::number::big_bytes32(word), out, at)
 }
 
+// What stands where a view does not hold what it is asked for.
+pub fn none(out: &mut [u8], at: usize) -> usize {
+    word(b"none", out, at)
+}
+
 pub fn refused(number: u8, out: &mut [u8]) -> usize {
     named(b"refused", number as u64, out, 0)
 }

@@ -2,11 +2,14 @@
 use crate::commanding;
 use crate::devices;
 use crate::dialects;
+use crate::encoding;
 use crate::frames;
 use crate::line::first;
 use crate::line::rest;
 use crate::numeric;
 use crate::reply;
+use crate::responding;
+use crate::status;
 use crate::values;
 use crate::viewing;
 
@@ -50,6 +53,10 @@ fn by_verb(verb: &[u8], args: &[u8], out: &mut [u8]) -> usize {
     if 0 < end {
         return end;
     }
+    let end = of_responses(verb, args, out);
+    if 0 < end {
+        return end;
+    }
     reply::text(b"bad verb", out, 0)
 }
 
@@ -63,5 +70,17 @@ fn of_commands(verb: &[u8], args: &[u8], out: &mut [u8]) -> usize {
     if 0 < end {
         return end;
     }
+    let end = encoding::by_verb(verb, args, out);
+    if 0 < end {
+        return end;
+    }
     dialects::by_verb(verb, args, out)
+}
+
+fn of_responses(verb: &[u8], args: &[u8], out: &mut [u8]) -> usize {
+    let end = responding::by_verb(verb, args, out);
+    if 0 < end {
+        return end;
+    }
+    status::by_verb(verb, args, out)
 }

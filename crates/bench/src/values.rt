@@ -57,11 +57,10 @@ pub fn value_misfit(words: &[u8]) -> usize
     if kind == 0 {
         return 1;
     }
-    let bad = line::misfit(line::rest(words), line::nth(b"w w h w nn", kind));
-    if bad == 0 {
-        return 0;
-    }
-    bad + 1
+    line::behind(
+        line::misfit(line::rest(words), line::nth(b"w w h w nn", kind)),
+        1,
+    )
 }
 
 // How many words it takes.
@@ -116,7 +115,10 @@ fn read_value(args: &[u8], out: &mut [u8]) -> usize {
     let mut bytes = [0u8; LONGEST];
     let n = line::bytes(args, 1, &mut bytes);
     let place = line::place(line::rest(args));
-    let answer = Value::from_bytes(line::head(&bytes, n), place);
+    put_read(Value::from_bytes(line::head(&bytes, n), place), out)
+}
+
+pub fn put_read(answer: ReadValue, out: &mut [u8]) -> usize {
     match answer {
         ReadValue::Is(value) => put_value(value, out, 0),
         ReadValue::Refused(number) => reply::refused(number, out),
@@ -143,9 +145,9 @@ fn encode_value(args: &[u8], out: &mut [u8]) -> usize {
         return reply::bad_argument(bad, out);
     }
     let words = line::from(args, 3);
-    let bad = value_misfit(words);
+    let bad = line::behind(value_misfit(words), 2);
     if 0 < bad {
-        return reply::bad_argument(bad + 2, out);
+        return reply::bad_argument(bad, out);
     }
     let mut bytes = [0u8; LONGEST];
     let mut lent = [0xeeu8; LONGEST];

@@ -23,14 +23,14 @@ pub fn by_verb(verb: &[u8], args: &[u8], out: &mut [u8]) -> usize {
 }
 
 // The words BASE START LEN.
-fn memory_of(words: &[u8]) -> MemoryView {
+pub fn memory_of(words: &[u8]) -> MemoryView {
     let data = line::place(line::rest(words));
     let base = line::half(words, 1);
     MemoryView { base, data }
 }
 
 // The words BASE START COUNT.
-fn floats_of(words: &[u8]) -> FloatView {
+pub fn floats_of(words: &[u8]) -> FloatView {
     FloatView {
         base: line::half(words, 1),
         start: line::size(words, 2),
@@ -56,14 +56,10 @@ fn read(asked: usize, args: &[u8], out: &mut [u8]) -> usize {
             line::byte(args, 6),
             out,
         ),
-        2 => put_byte(memory_of(words).read_u8(bytes, line::half(args, 5)), out),
+        2 => put_byte(memory_of(words).read_u8(bytes, line::half(args, 5)), out, 0),
         3 => put_word(memory_of(words).read_u16(bytes, line::half(args, 5)), out),
         _ => put_bits(floats_of(words).get(bytes, line::half(args, 5)), out),
     }
-}
-
-fn none(out: &mut [u8]) -> usize {
-    reply::word(b"none", out, 0)
 }
 
 fn read_at(view: MemoryView, bytes: &[u8], addr: u16, len: u8, out: &mut [u8]) -> usize {
@@ -72,21 +68,21 @@ fn read_at(view: MemoryView, bytes: &[u8], addr: u16, len: u8, out: &mut [u8]) -
             let end = reply::place(place, out, 0);
             reply::bytes(octets::part(bytes, place), out, end)
         }
-        Part::Outside => none(out),
+        Part::Outside => reply::none(out, 0),
     }
 }
 
-fn put_byte(answer: memory::Byte, out: &mut [u8]) -> usize {
+pub fn put_byte(answer: memory::Byte, out: &mut [u8], at: usize) -> usize {
     match answer {
-        memory::Byte::Is(n) => reply::decimal(n as u64, out, 0),
-        memory::Byte::Outside => none(out),
+        memory::Byte::Is(n) => reply::decimal(n as u64, out, at),
+        memory::Byte::Outside => reply::none(out, at),
     }
 }
 
 fn put_word(answer: memory::Word, out: &mut [u8]) -> usize {
     match answer {
         memory::Word::Is(n) => reply::decimal(n as u64, out, 0),
-        memory::Word::Outside => none(out),
+        memory::Word::Outside => reply::none(out, 0),
     }
 }
 
@@ -144,7 +140,7 @@ fn joined(
     )
 }
 
-fn put_memory(answer: memory::Answer, out: &mut [u8]) -> usize {
+pub fn put_memory(answer: memory::Answer, out: &mut [u8]) -> usize {
     match answer {
         memory::Answer::View(view) => {
             let end = reply::decimal(view.base as u64, out, 0);
@@ -154,7 +150,7 @@ fn put_memory(answer: memory::Answer, out: &mut [u8]) -> usize {
     }
 }
 
-fn put_floats(answer: floats::Answer, out: &mut [u8]) -> usize {
+pub fn put_floats(answer: floats::Answer, out: &mut [u8]) -> usize {
     match answer {
         floats::Answer::View(view) => {
             let mut end = reply::decimal(view.base as u64, out, 0);

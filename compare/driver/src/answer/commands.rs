@@ -2,20 +2,18 @@
 use bytes::Bytes;
 use minidsp_protocol::{
     commands::{Commands, ProtocolError, WriteInt},
-    packet, AddrEncoding, Dialect, FloatEncoding,
+    AddrEncoding, Dialect, FloatEncoding,
 };
 
 use super::{
-    fields::{addr, addr_words, value_words, Lent},
+    fields::{addr, addr_words, value_words},
     outside, records,
-    words::{bit, bytes, float, half, hex32, number, refused, unwritten, written, LONGEST},
+    words::{bit, bytes, float, half, hex32, refused, LONGEST},
 };
 
 pub fn answer(verb: &str, args: &[&str]) -> Option<String> {
     Some(match verb {
         "command" => command(&bytes(args[0])),
-        "encode" => encode(args, |packet| Bytes::copy_from_slice(packet)),
-        "encode_frame" => encode(args, |packet| packet::frame(packet)),
         "mute" => records::words(&Commands::mute(addr(&mut args.iter()), bit(args[3])), &[]),
         "write_int" => format!(
             "DISABLED {} ENABLED {} BYPASSED {}",
@@ -38,21 +36,6 @@ fn command(packet: &[u8]) -> String {
         Err(ProtocolError::DecodeError(_)) => refused(3),
         Err(_) => "(another error)".to_string(),
     }
-}
-
-/// Document 01's order is 8, where the Rust panics, then 7, 5, 6. A place outside is added.
-fn encode(args: &[&str], finish: fn(&[u8]) -> Bytes) -> String {
-    let payload = bytes(args[0]);
-    let room = number(args[1]);
-    let mut lent = Lent { bytes: &payload, outside: false };
-    let packet = records::command(&args[2..], &mut lent).to_bytes();
-    if lent.outside {
-        return unwritten(7, room);
-    }
-    if packet.len() > LONGEST {
-        return outside(5);
-    }
-    written(&finish(&packet), room)
 }
 
 fn dialect(len: &str, encoding: &str) -> Dialect {

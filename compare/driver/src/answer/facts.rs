@@ -19,7 +19,7 @@ pub fn answer(verb: &str, args: &[&str]) -> Option<String> {
     })
 }
 
-fn device(args: &[&str]) -> DeviceInfo {
+pub fn device(args: &[&str]) -> DeviceInfo {
     DeviceInfo {
         hw_id: byte(args[0]),
         fw_major: 1,

@@ -6,16 +6,16 @@ use super::{
     words::{bit, byte, float, half, number, place, word32},
 };
 
-fn next<'a>(words: &mut Words<'a>) -> &'a str {
+pub fn next<'a>(words: &mut Words<'a>) -> &'a str {
     words.next().unwrap()
 }
 
-fn payload(words: &mut Words, lent: &mut Lent) -> BytesWrap {
+pub fn payload(words: &mut Words, lent: &mut Lent) -> BytesWrap {
     let start = number(next(words));
     BytesWrap(lent.part(start, number(next(words))))
 }
 
-fn floats(words: &mut Words, lent: &mut Lent) -> Vec<f32> {
+pub fn floats(words: &mut Words, lent: &mut Lent) -> Vec<f32> {
     let start = number(next(words));
     let part = lent.part(start, 4 * number(next(words)));
     part.chunks_exact(4)
@@ -24,8 +24,12 @@ fn floats(words: &mut Words, lent: &mut Lent) -> Vec<f32> {
 }
 
 pub fn command(record: &[&str], lent: &mut Lent) -> Commands {
-    let w = &mut record[1..].iter();
-    match record[0] {
+    read(&mut record.iter(), lent)
+}
+
+/// The command of the first words, which are taken.
+pub fn read(w: &mut Words, lent: &mut Lent) -> Commands {
+    match next(w) {
         "ReadHardwareId" => Commands::ReadHardwareId,
         "ReadFloats" => Commands::ReadFloats { addr: half(next(w)), len: byte(next(w)) },
         "WriteMemory" => Commands::WriteMemory { addr: half(next(w)), data: payload(w, lent) },

@@ -27,7 +27,7 @@ pub fn answer(verb: &str, args: &[&str]) -> Option<String> {
 }
 
 /// The view of the words BYTES BASE START LEN, none where its place is outside its bytes: added.
-fn memory(args: &[&str]) -> Option<MemoryView> {
+pub fn memory(args: &[&str]) -> Option<MemoryView> {
     let bytes = bytes(args[0]);
     let mut lent = Lent { bytes: &bytes, outside: false };
     let data = lent.part(number(args[2]), number(args[3]));

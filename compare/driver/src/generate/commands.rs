@@ -9,7 +9,7 @@ const KINDS: &[u8] = &[
 ];
 
 /// How many bytes follow the command byte.
-fn lengths() -> impl Iterator<Item = usize> {
+pub fn lengths() -> impl Iterator<Item = usize> {
     (0..=40).chain(248..=257)
 }
 
@@ -34,7 +34,7 @@ pub fn requests(random: &mut Random, line: &mut dyn FnMut(String)) {
         }
     }
     for _ in 0..4_000 {
-        damaged(random, line);
+        damaged("command", KINDS, random, line);
     }
     addresses(random, line);
     values(random, line);
@@ -48,17 +48,17 @@ fn command(kind: u8, mut rest: Vec<u8>, line: &mut dyn FnMut(String)) {
 }
 
 /// A packet, and copies of it that are cut, extended, or changed in one bit.
-fn damaged(random: &mut Random, line: &mut dyn FnMut(String)) {
+pub fn damaged(verb: &str, kinds: &[u8], random: &mut Random, line: &mut dyn FnMut(String)) {
     let n = random.below(45);
     let mut packet = random.bytes(n);
-    packet.insert(0, random.pick(KINDS));
-    line(format!("command {}", hex(&packet)));
-    line(format!("command {}", hex(&packet[..random.below(packet.len())])));
+    packet.insert(0, random.pick(kinds));
+    line(format!("{verb} {}", hex(&packet)));
+    line(format!("{verb} {}", hex(&packet[..random.below(packet.len())])));
     let at = random.below(packet.len());
     packet[at] ^= 1 << random.below(8);
-    line(format!("command {}", hex(&packet)));
+    line(format!("{verb} {}", hex(&packet)));
     packet.push(random.next() as u8);
-    line(format!("command {}", hex(&packet)));
+    line(format!("{verb} {}", hex(&packet)));
 }
 
 fn addresses(random: &mut Random, line: &mut dyn FnMut(String)) {

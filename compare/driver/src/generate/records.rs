@@ -3,7 +3,7 @@ use super::Random;
 use crate::answer::words::hex;
 
 /// Lengths of payloads, around where a packet is full.
-const PAYLOADS: &[usize] = &[
+pub const PAYLOADS: &[usize] = &[
     0, 1, 2, 3, 4, 5, 8, 12, 20, 24, 30, 40, 60, 247, 248, 249, 250, 251, 252, 253, 254, 255, 256,
     300,
 ];
@@ -14,7 +14,7 @@ pub fn requests(random: &mut Random, line: &mut dyn FnMut(String)) {
         for kind in KINDS {
             for _ in 0..20 {
                 let record = kind(random, n);
-                encode(&payload, &record, random, line);
+                encode("encode", &payload, &record, random, line);
             }
         }
         for _ in 0..60 {
@@ -40,13 +40,19 @@ pub fn requests(random: &mut Random, line: &mut dyn FnMut(String)) {
 }
 
 /// Each room from none to enough, and more.
-fn encode(payload: &[u8], record: &str, random: &mut Random, line: &mut dyn FnMut(String)) {
+pub fn encode(
+    verb: &str,
+    payload: &[u8],
+    record: &str,
+    random: &mut Random,
+    line: &mut dyn FnMut(String),
+) {
     let payload = hex(payload);
     let room = random.pick(&[0, 1, 2, 3, 4, 5, 6, 7, 8, 24, 28, 60, 254, 255, 256, 257]);
-    line(format!("encode {payload} {room} {record}"));
-    line(format!("encode_frame {payload} {room} {record}"));
-    line(format!("encode {payload} 310 {record}"));
-    line(format!("encode_frame {payload} 310 {record}"));
+    line(format!("{verb} {payload} {room} {record}"));
+    line(format!("{verb}_frame {payload} {room} {record}"));
+    line(format!("{verb} {payload} 310 {record}"));
+    line(format!("{verb}_frame {payload} 310 {record}"));
 }
 
 /// Payloads and floats at every place in and around a few bytes, and lengths around a full packet.
@@ -80,7 +86,7 @@ fn places(random: &mut Random, line: &mut dyn FnMut(String)) {
     }
 }
 
-const KINDS: &[fn(&mut Random, usize) -> String] = &[
+pub const KINDS: &[fn(&mut Random, usize) -> String] = &[
     |_, _| "ReadHardwareId".to_string(),
     |_, _| "FirLoadEnd".to_string(),
     |r, _| format!("ReadFloats {} {}", half(r), byte(r)),
@@ -107,12 +113,12 @@ const KINDS: &[fn(&mut Random, usize) -> String] = &[
     },
 ];
 
-fn byte(random: &mut Random) -> u8 {
+pub fn byte(random: &mut Random) -> u8 {
     let any = random.next() as u8;
     random.pick(&[0, 1, 127, 128, 255, any, any])
 }
 
-fn half(random: &mut Random) -> u16 {
+pub fn half(random: &mut Random) -> u16 {
     let any = random.next() as u16;
     random.pick(&[0, 1, 255, 256, 65535, any, any])
 }
@@ -131,14 +137,14 @@ fn float(random: &mut Random) -> String {
 }
 
 /// An address, most of two or three bytes.
-fn address(random: &mut Random) -> String {
+pub fn address(random: &mut Random) -> String {
     let any = random.next() as u8;
     let len = random.pick(&[2, 2, 2, 3, 3, 3, 3, 0, 1, 4, 255, any]);
     format!("{len} {} {:08X}", random.below(2), word(random))
 }
 
 /// A place, most of them inside n.
-fn place(random: &mut Random, n: usize) -> String {
+pub fn place(random: &mut Random, n: usize) -> String {
     match random.below(8) {
         0 => format!("{} {}", random.below(n + 3), random.below(n + 3)),
         1 => format!("0 {}", n + 1),
@@ -152,7 +158,7 @@ fn place(random: &mut Random, n: usize) -> String {
     }
 }
 
-fn value(random: &mut Random, n: usize) -> String {
+pub fn value(random: &mut Random, n: usize) -> String {
     match random.below(6) {
         0 => format!("Float {}", float(random)),
         1 => format!("FixedPoint {:08X}", word(random)),

@@ -1,14 +1,14 @@
--- Each value before takes three words at most.
+-- There are five values.
 use Prim.Native.Nat.{ℕ, _+_, _-_, _*_, _≤_, _<_}
 use borrow.Author.Needs.{needs}
 use Rattle.bench.proofs.records.values_of.Statement.{statement}
 use Rattle.bench.proofs.records.values_of.Tie as tie
 
 abbrev Inv-loop : tie.InvT-loop
-Inv-loop words all₀ at₀ i₀ all at i = (at ≤ 5 + 3 * i) × (i ≤ 5)
+Inv-loop words all₀ i₀ all i = i ≤ 5
 
 abbrev μ-loop : tie.MeasureT-loop
-μ-loop words all₀ at₀ i₀ all at i = 5 - i
+μ-loop words all₀ i₀ all i = 5 - i
 
 pub values-of-spec : {M : Type 1} → statement M
 values-of-spec =
@@ -19,9 +19,8 @@ values-of-spec =
     (λ c. search needs)
     (λ c κs. search needs)
     (λ c κs. search needs)
-    (λ c. search needs)
-    (λ c. search needs)
     (λ c κs. search needs)
+    (λ c. search needs)
     (λ c. search needs)
     (λ c. search needs)
     (λ c. search needs)
