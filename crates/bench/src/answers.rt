@@ -6,6 +6,7 @@ use crate::row;
 use crate::row::Row;
 use crate::row::of_address;
 use crate::row::of_numbers;
+use crate::row::of_place;
 use crate::values;
 use crate::viewing;
 use crate::word;
@@ -39,7 +40,7 @@ fn are_chunks(words: &[u8]) -> bool {
     word::is(line::first(words), b"Chunks")
 }
 
-// The same of the values of a Read: chunks at a place, or one value.
+// The number of the first word that is not right in the values of a Read: chunks at a place, or one value.
 pub fn values_misfit(words: &[u8]) -> usize
     ensures { λ r. ⌜ r ≤ 65 ⌝ }
 {
@@ -104,12 +105,10 @@ fn row_of(response: Responses) -> Row {
         Unk02 => of_numbers(3, 0, 0, 0),
         MemoryData(view) => {
             let data = view.data;
-            of_numbers(4, view.base as u64, data.start as u64, data.len as u64)
+            of_place(4, view.base as u64, data)
         }
-        FloatData(view) => { of_numbers(5, view.base as u64, view.start as u64, view.count as u64) }
-        Unknown { cmd_id, payload } => {
-            of_numbers(6, cmd_id as u64, payload.start as u64, payload.len as u64)
-        }
+        FloatData(view) => of_numbers(5, view.base as u64, view.start as u64, view.count as u64),
+        Unknown { cmd_id, payload } => of_place(6, cmd_id as u64, payload),
         Responses::HardwareId(id) => {
             of_numbers(7, id.fw_major as u64, id.fw_minor as u64, id.hw_id as u64)
         }

@@ -5,6 +5,7 @@ use crate::row;
 use crate::row::Row;
 use crate::row::of_address;
 use crate::row::of_numbers;
+use crate::row::of_place;
 use crate::values;
 use commands::Commands;
 use commands::Commands::*;
@@ -13,6 +14,7 @@ use fields::value::Value;
 use numbers::float::from_bits;
 use numbers::float::to_bits;
 use numbers::gain::Gain;
+use octets::Place;
 
 // The value of Write, and the first of the five of WriteBiquad, is the record's fifth word.
 const FIRST_VALUE: usize = 5;
@@ -219,27 +221,15 @@ fn row_of(command: Commands) -> Row {
         FirLoadEnd => of_numbers(2, 0, 0, 0),
         ReadFloats { addr, len } => of_numbers(3, addr as u64, len as u64, 0),
         ReadMemory { addr, size } => of_numbers(4, addr as u64, size as u64, 0),
-        WriteMemory { addr, data } => of_numbers(
-            5,
-            addr as u64,
-            data.start as u64,
-            data.len as u64,
-        ),
+        WriteMemory { addr, data } => of_place(5, addr as u64, data),
         FirLoadData {
             index,
             start,
             count,
         } => of_numbers(6, index as u64, start as u64, count as u64),
-        Unknown { cmd_id, payload } => {
-            of_numbers(7, cmd_id as u64, payload.start as u64, payload.len as u64)
-        }
-        BulkLoad { payload } => of_numbers(8, payload.start as u64, payload.len as u64, 0),
-        BulkLoadFilterData { payload } => of_numbers(
-            9,
-            payload.start as u64,
-            payload.len as u64,
-            0,
-        ),
+        Unknown { cmd_id, payload } => of_place(7, cmd_id as u64, payload),
+        BulkLoad { payload } => bulk_row(8, payload),
+        BulkLoadFilterData { payload } => bulk_row(9, payload),
         SetConfig { config, reset } => of_numbers(10, config as u64, reset as u64, 0),
         SetSource { source } => of_numbers(11, source as u64, 0, 0),
         SetMute { value } => of_numbers(12, value as u64, 0, 0),
@@ -258,4 +248,8 @@ fn row_of(command: Commands) -> Row {
         Write { addr, value: _ } => of_address(20, addr, 0, 0, 0),
         WriteBiquad { addr } => of_address(21, addr, 0, 0, 0),
     }
+}
+
+fn bulk_row(kind: usize, payload: Place) -> Row {
+    of_numbers(kind, payload.start as u64, payload.len as u64, 0)
 }

@@ -4,6 +4,7 @@ use crate::line;
 use crate::reply;
 use crate::word;
 use fields::addr::Addr;
+use octets::Place;
 
 // Which of the kinds a record is, counted from 1, and its fields as numbers.
 pub struct Row {
@@ -16,6 +17,10 @@ pub fn of_numbers(kind: usize, a: u64, b: u64, c: u64) -> Row {
         kind,
         fields: [a, b, c, 0, 0, 0],
     }
+}
+
+pub fn of_place(kind: usize, n: u64, place: Place) -> Row {
+    of_numbers(kind, n, place.start as u64, place.len as u64)
 }
 
 pub fn of_address(kind: usize, addr: Addr, a: u64, b: u64, c: u64) -> Row {

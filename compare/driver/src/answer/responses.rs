@@ -93,12 +93,12 @@ fn matches(args: &[&str]) -> String {
     (command.matches_response(&of(words.as_slice())) as u8).to_string()
 }
 
-/// A place outside the bytes is refused with 7: added.
+/// The first value at a place outside the bytes is refused with 7: added.
 fn values_at(args: &[&str]) -> String {
     let bytes = bytes(args[0]);
     let mut lent = Lent { bytes: &bytes, outside: false };
     let all = values(&mut args[1..].iter(), &mut lent);
-    if lent.outside && args[1] == "Chunks" {
+    if lent.outside && number(args[3]) > 0 {
         return format!("{} {}", number(args[3]).div_ceil(4), refused(7));
     }
     format!("{}{}", all.len(), values_words(&all, &bytes, start_of(&args[1..])))
