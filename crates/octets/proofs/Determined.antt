@@ -10,6 +10,7 @@ use Rattle.octets.specs.declared.Written.{Written}
 use Rattle.octets.specs.declared.Written.the-variants.{Bytes, Refused}
 use Rattle.octets.proofs.Agree.{Fixes, agree, both}
 use Rattle.octets.proofs.put.Reads as put
+use Rattle.octets.proofs.put_at.Reads as put-at
 use Rattle.octets.proofs.outside.Reads as outside
 use Rattle.octets.proofs.floats_outside.Reads as floats-outside
 use Rattle.octets.proofs.rest_of.Reads as rest-of
@@ -34,6 +35,9 @@ written-once (Refused j) (Refused k) e = cc
 
 pub put-fixed : Fixes (Written × List ℕ) put.Post (λ κs answer left. (answer, now (left .1 .0)))
 put-fixed κs args a b x y p q = both written written-once (agree p q)
+
+pub put-at-fixed : Fixes (Written × List ℕ) put-at.Post (λ κs answer left. (answer, now (left .1 .1 .0)))
+put-at-fixed κs args a b x y p q = both written written-once (agree p q)
 
 pub outside-fixed : Fixes Bool outside.Post (λ κs answer left. answer)
 outside-fixed κs args a b x y p q = agree p q
