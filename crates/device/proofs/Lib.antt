@@ -3,3 +3,5 @@ pub mod Words
 pub mod Stores
 pub mod Payload
 pub mod Answers
+pub mod Fills
+pub mod Meters

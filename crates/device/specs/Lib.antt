@@ -4,3 +4,5 @@ pub mod Effect
 pub mod Data
 pub mod Execute
 pub mod Decided
+pub mod Tally
+pub mod Create

@@ -1,8 +1,7 @@
 // Executing commands: everything is decided and the answer settled, and only then stored.
 ghost use mathlib.Core.Path.{_≡_};
-ghost use mathlib.Core.List.{[], _∷_};
 ghost use Rattle.octets.specs.Outcome.{written};
-ghost use Rattle.device.specs.Memory.{memory, putAt, store as storeAll};
+ghost use Rattle.device.specs.Memory.{memory, store as storeAll};
 ghost use Rattle.device.specs.Decided.{writesOf};
 ghost use Rattle.device.specs.Execute.{executed, executedRecord, executedInto, commandInto, answerInto, stored, packetInto, receivedInto};
 use crate::Device;
@@ -11,6 +10,8 @@ use crate::data::put_data;
 use crate::effect::Decided;
 use crate::effect::Write;
 use crate::effect::decide;
+use crate::put_bytes;
+use crate::put_word;
 use crate::wrong_sizes;
 use commands::Commands;
 use commands::decode::Parsed;
@@ -170,19 +171,5 @@ fn store(write: Write, payload: &[u8], eeprom: &mut [u8], settings: &mut [u32])
         Write::Byte { addr, value } => put_bytes(addr, &[value], eeprom),
         Write::Bytes { addr, data } => put_bytes(addr, octets::part(payload, data), eeprom),
         Write::Word { addr, value } => put_word(addr as usize, value, settings),
-    }
-}
-
-fn put_bytes(addr: u16, bytes: &[u8], eeprom: &mut [u8])
-    ensures { λ _. ⌜ now (eeprom .exit) ≡ putAt addr (now (bytes .entry)) (now (eeprom .entry)) ⌝ }
-{
-    octets::put_at(bytes, addr as usize, eeprom);
-}
-
-fn put_word(addr: usize, value: u32, settings: &mut [u32])
-    ensures { λ _. ⌜ now (settings .exit) ≡ putAt addr (value ∷ []) (now (settings .entry)) ⌝ }
-{
-    if addr < settings.len() {
-        settings[addr] = value;
     }
 }

@@ -1,12 +1,15 @@
 // The processor: a mock of a device, on two memories that its caller lends. (mock_device.rs)
 ghost use mathlib.Core.Path.{_≡_};
-ghost use Rattle.device.specs.Memory.{wrongSizes};
+ghost use mathlib.Core.List.{[], _∷_};
+ghost use Rattle.device.specs.Memory.{wrongSizes, putAt};
 use facts::probe::DeviceKind;
 
+pub mod create;
 mod data;
 mod effect;
 pub mod execute;
 pub mod memory;
+pub mod tally;
 
 // What a device is beside its memories, the EEPROM (bytes) and the settings (words).
 pub struct Device {
@@ -32,4 +35,19 @@ fn wrong_sizes(eeprom: usize, settings: usize) -> bool
         return true;
     }
     false
+}
+
+// Writes that are inside; others write nothing.
+fn put_bytes(addr: u16, bytes: &[u8], eeprom: &mut [u8])
+    ensures { λ _. ⌜ now (eeprom .exit) ≡ putAt addr (now (bytes .entry)) (now (eeprom .entry)) ⌝ }
+{
+    octets::put_at(bytes, addr as usize, eeprom);
+}
+
+fn put_word(addr: usize, value: u32, settings: &mut [u32])
+    ensures { λ _. ⌜ now (settings .exit) ≡ putAt addr (value ∷ []) (now (settings .entry)) ⌝ }
+{
+    if addr < settings.len() {
+        settings[addr] = value;
+    }
 }

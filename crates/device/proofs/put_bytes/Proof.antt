@@ -4,8 +4,8 @@ use Prim.Native.Nat.{ℕ}
 use mathlib.Core.List.{List}
 use Rattle.octets.specs.Outcome.{Outcome}
 use borrow.Author.Needs.{needs}
-use Rattle.device.proofs.execute.put_bytes.Statement.{statement}
-use Rattle.device.proofs.execute.put_bytes.Tie as tie
+use Rattle.device.proofs.put_bytes.Statement.{statement}
+use Rattle.device.proofs.put_bytes.Tie as tie
 
 returns : tie.Need-returns
 returns c = ap (λ (p : Outcome ℕ × List ℕ). p .1) (c .before .before .put-at .ensures)

@@ -3,8 +3,8 @@ use mathlib.Core.List.{[], _∷_}
 use Rattle.device.proofs.Stores.{set-put, put-outside}
 use native.Mathlib.Omega.{arith}
 use borrow.Author.Needs.{needs}
-use Rattle.device.proofs.execute.put_word.Statement.{statement}
-use Rattle.device.proofs.execute.put_word.Tie as tie
+use Rattle.device.proofs.put_word.Statement.{statement}
+use Rattle.device.proofs.put_word.Tie as tie
 
 returns : tie.Need-returns
 returns c = let a = c .before .args in set-put (a .settings .now) (a .addr) (a .value) (c .if1 .taken)
