@@ -5,3 +5,6 @@ pub mod Payload
 pub mod Answers
 pub mod Fills
 pub mod Meters
+pub mod Determined
+pub mod Refusals
+pub mod Tallies

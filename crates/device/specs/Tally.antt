@@ -2,6 +2,9 @@
 use Prim.Native.Nat.{ℕ, _+_, min}
 use mathlib.Core.List.{List, [], _∷_}
 use Rattle.octets.specs.Outcome.{Outcome, accepted, refused}
+use Rattle.device.specs.Memory.{Memory}
+use Rattle.device.specs.Execute.{receivedInto}
+use Rattle.device.specs.declared.Device.{Device}
 use Rattle.device.specs.declared.tally.Tally.{Tally}
 
 abbrev pub most : ℕ
@@ -18,11 +21,6 @@ abbrev pub after : {A : Type 0} → Tally → Outcome A → Tally
 after t (accepted a) = tallyOf (min most (t .accepted + 1)) (t .refused)
 after t (refused k) = tallyOf (t .accepted) (min most (t .refused + 1))
 
--- after a history of calls
-abbrev pub afterAll : {A : Type 0} → Tally → List (Outcome A) → Tally
-afterAll t [] = t
-afterAll t (o ∷ os) = afterAll (after t o) os
-
 -- how many of a history were accepted, and how many refused
 abbrev pub acceptedIn : {A : Type 0} → List (Outcome A) → ℕ
 acceptedIn [] = 0
@@ -33,3 +31,14 @@ abbrev pub refusedIn : {A : Type 0} → List (Outcome A) → ℕ
 refusedIn [] = 0
 refusedIn (accepted a ∷ os) = refusedIn os
 refusedIn (refused k ∷ os) = refusedIn os + 1
+
+-- the tally of a history of received frames, each with the output that it is lent
+abbrev pub tallyAfter : Device → Tally → Memory → List (List ℕ × List ℕ) → Tally
+tallyAfter d t m [] = t
+tallyAfter d t m (call ∷ calls) =
+    let left = receivedInto d (call .0) m (call .1) in tallyAfter d (after t (left .0)) (left .1) calls
+
+-- the answers of that history
+abbrev pub answers : Device → Memory → List (List ℕ × List ℕ) → List (Outcome ℕ)
+answers d m [] = []
+answers d m (call ∷ calls) = let left = receivedInto d (call .0) m (call .1) in left .0 ∷ answers d (left .1) calls
