@@ -8,3 +8,6 @@ pub mod Meters
 pub mod Determined
 pub mod Refusals
 pub mod Tallies
+pub mod Named
+pub mod Effects
+pub mod Accepted

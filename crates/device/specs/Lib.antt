@@ -6,3 +6,4 @@ pub mod Execute
 pub mod Decided
 pub mod Tally
 pub mod Create
+pub mod Named
