@@ -8,9 +8,6 @@ use Rattle.device.specs.Create.{anyBeyond}
 use Rattle.device.proofs.Meters.{beyond-here, beyond-later, beyond-none}
 use Rattle.device.proofs.create.any_beyond.Statement.{statement}
 use Rattle.device.proofs.create.any_beyond.Tie as tie
-use Rattle.device.proofs.create.any_beyond.Reads as reads
-use Rattle.device.proofs.create.any_beyond.Lts as lts
-use Rattle.device.proofs.create.meter.Reads as meter-reads
 
 abbrev Inv-loop : tie.InvT-loop
 Inv-loop meters settings i₀ i = (i ≤ length meters) × (anyBeyond settings meters ≡ anyBeyond settings (drop i meters))
@@ -18,19 +15,9 @@ Inv-loop meters settings i₀ i = (i ≤ length meters) × (anyBeyond settings m
 abbrev μ-loop : tie.MeasureT-loop
 μ-loop meters settings i₀ i = length meters - i
 
--- src/create.rt:124:5
 loop-holds : tie.Need-loop-holds Inv-loop μ-loop
 loop-holds c = (omega arith, refl)
 
--- src/create.rt:125:24
-meter-requires : tie.Need-meter-requires Inv-loop μ-loop
-meter-requires c κs = search needs
-
--- src/create.rt:125:24
-cast-if1 : tie.Need-cast-if1 Inv-loop μ-loop
-cast-if1 c = search needs
-
--- src/create.rt:126:13
 returns : tie.Need-returns Inv-loop μ-loop
 returns c =
     let l = c .before .before .before in
@@ -38,15 +25,9 @@ returns c =
     let here = rw (c .before .meter .ensures) at (c .if1 .taken) in
     beyond-here (a .settings) (l .loop .i) (a .meters .now) (c .before .before .loop-test .taken) here ∙ sym (l .loop .inv .1)
 
--- src/create.rt:128:9
-add-i : tie.Need-add-i Inv-loop μ-loop
-add-i c = search needs
-
--- src/create.rt:124:5
 loop-less : tie.Need-loop-less Inv-loop μ-loop
 loop-less c = omega arith
 
--- src/create.rt:124:5
 loop-again : tie.Need-loop-again Inv-loop μ-loop
 loop-again c =
     let l = c .before .before .before in
@@ -54,7 +35,6 @@ loop-again c =
     let not = rw (c .before .meter .ensures) at (c .if1 .left) in
     (omega arith, l .loop .inv .1 ∙ beyond-later (a .settings) (l .loop .i) (a .meters .now) (c .before .before .loop-test .taken) not)
 
--- src/create.rt:120:1
 returns-2 : tie.Need-returns-2 Inv-loop μ-loop
 returns-2 c =
     let l = c .before in
@@ -68,10 +48,10 @@ any-beyond-spec =
     Inv-loop
     μ-loop
     loop-holds
-    meter-requires
-    cast-if1
+    (λ c κs. search needs)
+    (λ c. search needs)
     returns
-    add-i
+    (λ c. search needs)
     loop-less
     loop-again
     returns-2)

@@ -9,8 +9,6 @@ use Rattle.device.proofs.Payload.{over-nothing}
 use Rattle.device.proofs.Fills.{fill-next, fill-end}
 use Rattle.device.proofs.create.erase.Statement.{statement}
 use Rattle.device.proofs.create.erase.Tie as tie
-use Rattle.device.proofs.create.erase.Reads as reads
-use Rattle.device.proofs.create.erase.Lts as lts
 
 abbrev Inv-loop : tie.InvT-loop
 Inv-loop eeprom₀ i₀ eeprom i = (i ≤ length eeprom₀) × (length eeprom ≡ length eeprom₀) × (eeprom ≡ over (replicate i 0xFF) eeprom₀)
@@ -18,34 +16,18 @@ Inv-loop eeprom₀ i₀ eeprom i = (i ≤ length eeprom₀) × (length eeprom �
 abbrev μ-loop : tie.MeasureT-loop
 μ-loop eeprom₀ i₀ eeprom i = length eeprom₀ - i
 
--- src/create.rt:89:5
 loop-holds : tie.Need-loop-holds Inv-loop μ-loop
 loop-holds c = (omega arith, refl, over-nothing _)
 
--- src/create.rt:90:9
-slice-write-eeprom : tie.Need-slice-write-eeprom Inv-loop μ-loop
-slice-write-eeprom c = search needs
-
--- src/create.rt:91:9
-add-i : tie.Need-add-i Inv-loop μ-loop
-add-i c = search needs
-
--- src/create.rt:89:5
 loop-less : tie.Need-loop-less Inv-loop μ-loop
 loop-less c = omega arith
 
--- src/create.rt:89:5
 loop-again : tie.Need-loop-again Inv-loop μ-loop
 loop-again c =
     let l = c .before .loop in
     let e = c .before .before .args .eeprom .now in
     (omega arith, length-set {A = ℕ} (l .eeprom) (l .i) 0xFF ∙ l .inv .1, fill-next e 0xFF (l .i) (l .inv .2) (omega arith))
 
--- src/create.rt:85:1
-same-length : tie.Need-same-length Inv-loop μ-loop
-same-length c = search needs
-
--- src/create.rt:85:1
 returns : tie.Need-returns Inv-loop μ-loop
 returns c = fill-end (c .before .before .args .eeprom .now) 0xFF (c .before .loop .i) (c .before .loop .inv .2) (omega (arith, c .loop-test .left))
 
@@ -56,9 +38,9 @@ erase-spec =
     Inv-loop
     μ-loop
     loop-holds
-    slice-write-eeprom
-    add-i
+    (λ c. search needs)
+    (λ c. search needs)
     loop-less
     loop-again
-    same-length
+    (λ c. search needs)
     returns)

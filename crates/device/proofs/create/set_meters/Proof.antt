@@ -12,10 +12,6 @@ use Rattle.device.proofs.Meters.{more-meters}
 use Rattle.device.proofs.Stores.{length-put}
 use Rattle.device.proofs.create.set_meters.Statement.{statement}
 use Rattle.device.proofs.create.set_meters.Tie as tie
-use Rattle.device.proofs.create.set_meters.Reads as reads
-use Rattle.device.proofs.create.set_meters.Lts as lts
-use Rattle.device.proofs.create.meter.Reads as meter-reads
-use Rattle.device.proofs.put_word.Reads as put-word-reads
 
 abbrev Inv-loop : tie.InvT-loop
 Inv-loop meters settings₀ i₀ settings i = (i ≤ length meters) × (length settings ≡ length settings₀) × (settings ≡ withMeters (take i meters) settings₀)
@@ -23,31 +19,12 @@ Inv-loop meters settings₀ i₀ settings i = (i ≤ length meters) × (length s
 abbrev μ-loop : tie.MeasureT-loop
 μ-loop meters settings₀ i₀ settings i = length meters - i
 
--- src/create.rt:137:5
 loop-holds : tie.Need-loop-holds Inv-loop μ-loop
 loop-holds c = (omega arith, refl, refl)
 
--- src/create.rt:138:18
-meter-requires : tie.Need-meter-requires Inv-loop μ-loop
-meter-requires c κs = search needs
-
--- src/create.rt:138:18
-cast-put-word : tie.Need-cast-put-word Inv-loop μ-loop
-cast-put-word c = search needs
-
--- src/create.rt:138:9
-put-word-requires : tie.Need-put-word-requires Inv-loop μ-loop
-put-word-requires c κs = search needs
-
--- src/create.rt:139:9
-add-i : tie.Need-add-i Inv-loop μ-loop
-add-i c = search needs
-
--- src/create.rt:137:5
 loop-less : tie.Need-loop-less Inv-loop μ-loop
 loop-less c = omega arith
 
--- src/create.rt:137:5
 loop-again : tie.Need-loop-again Inv-loop μ-loop
 loop-again c =
     let put = c .before .before in
@@ -58,11 +35,6 @@ loop-again c =
     let wrote = next ∙ ap (putAt (getD (a .meters .now) (l .loop .i) 0) (0xC2700000 ∷ [])) (l .loop .inv .2) ∙ sym (more-meters (l .loop .i) (a .meters .now) (a .settings .now) (omega arith)) in
     (omega arith, ap length next ∙ length-put (getD (a .meters .now) (l .loop .i) 0) (0xC2700000 ∷ []) (l .loop .settings) ∙ l .loop .inv .1, wrote)
 
--- src/create.rt:133:1
-same-length : tie.Need-same-length Inv-loop μ-loop
-same-length c = search needs
-
--- src/create.rt:133:1
 returns : tie.Need-returns Inv-loop μ-loop
 returns c =
     let l = c .before in
@@ -76,11 +48,11 @@ set-meters-spec =
     Inv-loop
     μ-loop
     loop-holds
-    meter-requires
-    cast-put-word
-    put-word-requires
-    add-i
+    (λ c κs. search needs)
+    (λ c. search needs)
+    (λ c κs. search needs)
+    (λ c. search needs)
     loop-less
     loop-again
-    same-length
+    (λ c. search needs)
     returns)
