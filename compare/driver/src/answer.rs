@@ -6,6 +6,7 @@ mod facts;
 mod fields;
 mod frames;
 mod numbers;
+mod processor;
 mod records;
 mod responses;
 mod views;
@@ -34,7 +35,9 @@ fn at_panic(verb: &str) -> u8 {
 }
 
 #[derive(Default)]
-pub struct Rust {}
+pub struct Rust {
+    processor: processor::Processor,
+}
 
 impl Rust {
     pub fn answer(&mut self, line: &str) -> String {
@@ -42,20 +45,21 @@ impl Rust {
             return line.to_string();
         }
         let words: Vec<&str> = line.split_whitespace().collect();
-        catch_unwind(AssertUnwindSafe(|| by_verb(words[0], &words[1..])))
+        catch_unwind(AssertUnwindSafe(|| self.by_verb(words[0], &words[1..])))
             .unwrap_or_else(|_| outside(at_panic(words[0])))
     }
-}
 
-/// Each part is asked in turn whether the verb is its own.
-fn by_verb(verb: &str, args: &[&str]) -> String {
-    frames::answer(verb, args)
-        .or_else(|| numbers::answer(verb, args))
-        .or_else(|| fields::answer(verb, args))
-        .or_else(|| commands::answer(verb, args))
-        .or_else(|| encoding::answer(verb, args))
-        .or_else(|| facts::answer(verb, args))
-        .or_else(|| views::answer(verb, args))
-        .or_else(|| responses::answer(verb, args))
-        .unwrap_or_else(|| "(no such request)".to_string())
+    /// Each part is asked in turn whether the verb is its own.
+    fn by_verb(&mut self, verb: &str, args: &[&str]) -> String {
+        frames::answer(verb, args)
+            .or_else(|| numbers::answer(verb, args))
+            .or_else(|| fields::answer(verb, args))
+            .or_else(|| commands::answer(verb, args))
+            .or_else(|| encoding::answer(verb, args))
+            .or_else(|| facts::answer(verb, args))
+            .or_else(|| views::answer(verb, args))
+            .or_else(|| responses::answer(verb, args))
+            .or_else(|| self.processor.answer(verb, args))
+            .unwrap_or_else(|| "(no such request)".to_string())
+    }
 }

@@ -3,6 +3,7 @@ mod commands;
 mod facts;
 mod frames;
 mod numbers;
+mod processor;
 mod records;
 mod responses;
 mod views;
@@ -20,6 +21,7 @@ pub const PARTS: &[(&str, Part)] = &[
     ("facts", facts::requests),
     ("views", views::requests),
     ("responses", responses::requests),
+    ("device", processor::requests),
 ];
 
 pub fn part(name: &str, seed: u64, out: &mut impl Write) {

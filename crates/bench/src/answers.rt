@@ -117,6 +117,26 @@ fn row_of(response: Responses) -> Row {
     }
 }
 
+// How many bytes of payload stand beside it.
+pub fn payload_length(response: Responses) -> usize {
+    match response {
+        MemoryData(view) => {
+            let data = view.data;
+            data.len
+        }
+        FloatData(view) => floats_length(view.count),
+        _ => 0,
+    }
+}
+
+// The most that a payload has is 255 words.
+fn floats_length(count: usize) -> usize {
+    if 255 < count {
+        return 0;
+    }
+    4 * count
+}
+
 fn put_data(data: Values, bytes: &[u8], out: &mut [u8], at: usize) -> usize {
     match data {
         Values::Chunks(place) => {

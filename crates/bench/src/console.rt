@@ -3,6 +3,10 @@
 ghost use Prim.Native.Nat.{_+_, _-_, _≤_};
 ghost use lib.ListN.{length};
 use crate::request::answer;
+use crate::state;
+use crate::state::Answered;
+use crate::state::State;
+use crate::state::same;
 use libc::STDIN_FILENO;
 use libc::STDOUT_FILENO;
 
@@ -12,13 +16,25 @@ const ANSWER: usize = 131072;
 // Far more reads than any input has, so that the loop has an end.
 const READS: u64 = 0xffff_ffff_ffff_ffff;
 
-pub fn run(input: &mut [u8; 65536], output: &mut [u8; 262144]) {
-    serve(input, output);
+// How far into a text the whole lines go, and what is held after them.
+struct Used {
+    bytes: usize,
+    state: State,
+}
+
+pub fn run(
+    input: &mut [u8; 65536],
+    output: &mut [u8; 262144],
+    eeprom: &mut [u8; 65537],
+    settings: &mut [u32; 65537],
+) {
+    serve(input, output, eeprom, settings);
 }
 
 // Answers each line of the input. The last one may lack its line end; of one that is too long the
 // start is dropped.
-fn serve(input: &mut [u8], output: &mut [u8]) {
+fn serve(input: &mut [u8], output: &mut [u8], eeprom: &mut [u8], settings: &mut [u32]) {
+    let mut state = state::first();
     let mut have = 0;
     let mut long = false;
     let mut reads = READS;
@@ -26,20 +42,28 @@ fn serve(input: &mut [u8], output: &mut [u8]) {
         reads -= 1;
         let more = read_behind(input, have);
         if more == 0 {
-            last_line(&input[0..have], output, long);
+            last_line(&input[0..have], long, state, eeprom, settings, output);
             return;
         }
         let end = have + more;
-        let used = answer_lines(&input[0..end], output, long);
-        long = too_long(used, end, input.len(), long);
-        have = keep(input, used, end, long);
+        let used = answer_lines(&input[0..end], long, state, eeprom, settings, output);
+        state = used.state;
+        long = too_long(used.bytes, end, input.len(), long);
+        have = keep(input, used.bytes, end, long);
     }
 }
 
-fn last_line(line: &[u8], output: &mut [u8], long: bool) {
+fn last_line(
+    line: &[u8],
+    long: bool,
+    state: State,
+    eeprom: &mut [u8],
+    settings: &mut [u32],
+    output: &mut [u8],
+) {
     if 0 < line.len() || long {
-        let n = answer(line, output, long);
-        flush(output, n);
+        let answered = answer(line, long, state, eeprom, settings, output);
+        flush(output, answered.end);
     }
 }
 
@@ -62,9 +86,17 @@ fn read_behind(input: &mut [u8], have: usize) -> usize
 }
 
 // Answers each whole line of the text, and answers how many bytes those take.
-fn answer_lines(lines: &[u8], output: &mut [u8], long: bool) -> usize
-    ensures { λ r. ⌜ r ≤ length (now (lines .entry)) ⌝ }
+fn answer_lines(
+    lines: &[u8],
+    long: bool,
+    state: State,
+    eeprom: &mut [u8],
+    settings: &mut [u32],
+    output: &mut [u8],
+) -> Used
+    ensures { λ r. ⌜ r .bytes ≤ length (now (lines .entry)) ⌝ }
 {
+    let mut held = state;
     let mut first_is_long = long;
     let mut used = 0;
     let mut n = 0;
@@ -74,27 +106,51 @@ fn answer_lines(lines: &[u8], output: &mut [u8], long: bool) -> usize
             i += 1;
             continue;
         }
-        n = answer_behind(&lines[used..i], output, n, first_is_long);
+        let line = &lines[used..i];
+        let answered = answer_behind(line, first_is_long, held, eeprom, settings, output, n);
+        n = answered.end;
+        held = answered.state;
         first_is_long = false;
         used = i + 1;
         i += 1;
     }
     flush(output, n);
-    used
+    Used {
+        bytes: used,
+        state: held,
+    }
 }
 
 // Answers one line behind the first n bytes of the output, which are written first where the answer
 // might not fit.
-fn answer_behind(line: &[u8], output: &mut [u8], n: usize, long: bool) -> usize {
+fn answer_behind(
+    line: &[u8],
+    long: bool,
+    state: State,
+    eeprom: &mut [u8],
+    settings: &mut [u32],
+    output: &mut [u8],
+    n: usize,
+) -> Answered {
     if output.len() < n {
-        return answer(line, output, long);
+        return answer(line, long, state, eeprom, settings, output);
     }
     if output.len() - n < ANSWER {
         flush(output, n);
-        return answer(line, output, long);
+        return answer(line, long, state, eeprom, settings, output);
     }
-    let more = answer(line, &mut output[n..], long);
-    if output.len() - n < more {
+    let answered = answer(line, long, state, eeprom, settings, &mut output[n..]);
+    let state = answered.state;
+    same(end_behind(n, answered.end, output.len()), state)
+}
+
+// Where an answer of so many bytes ends behind the first n of an output, which are all where it has
+// no room.
+fn end_behind(n: usize, more: usize, room: usize) -> usize {
+    if room < n {
+        return n;
+    }
+    if room - n < more {
         return n;
     }
     n + more

@@ -11,6 +11,9 @@ use facts::source::Source::*;
 const SOURCES: [u8; 75] =
     *b"NotInstalled Analog Toslink Spdif Usb Aesebu Rca Xlr Lan I2S Bluetooth Hdmi";
 
+const KINDS: [u8; 99] =
+    *b"Generic M4x10Hd M10x10Hd MSharc4x8 M2x4Hd Shd DDRC24 DDRC88BM Nanodigi2x8 C8x12v2 M2x4 Flex FlexHtx";
+
 // Answers a request of this part; 0 where the verb is none of its own.
 pub fn by_verb(verb: &[u8], args: &[u8], out: &mut [u8]) -> usize {
     match line::which(verb, b"kind dirac sources source_from source_to eeprom") {
@@ -39,7 +42,7 @@ fn of_device(asked: usize, args: &[u8], out: &mut [u8]) -> usize {
     }
     let info = info_of(args);
     match asked {
-        1 => put_kind(info.device_kind(), out),
+        1 => put_kind(info.device_kind(), out, 0),
         2 => reply::decimal(info.supports_dirac() as u64, out, 0),
         3 => put_mapping(info, out),
         4 => put_source(Source::from_id(line::byte(args, 3), info), out, 0),
@@ -47,11 +50,30 @@ fn of_device(asked: usize, args: &[u8], out: &mut [u8]) -> usize {
     }
 }
 
-fn put_kind(kind: DeviceKind, out: &mut [u8]) -> usize {
-    let names =
-        b"Generic M4x10Hd M10x10Hd MSharc4x8 M2x4Hd Shd DDRC24 DDRC88BM Nanodigi2x8 C8x12v2 M2x4 Flex
-        FlexHtx";
-    reply::word(line::nth(names, kind_number(kind)), out, 0)
+pub fn put_kind(kind: DeviceKind, out: &mut [u8], at: usize) -> usize {
+    reply::word(line::nth(&KINDS, kind_number(kind)), out, at)
+}
+
+pub fn is_kind(name: &[u8]) -> bool {
+    0 < line::which(name, &KINDS)
+}
+
+pub fn kind_of(name: &[u8]) -> DeviceKind {
+    match line::which(name, &KINDS) {
+        2 => M4x10Hd,
+        3 => M10x10Hd,
+        4 => MSharc4x8,
+        5 => M2x4Hd,
+        6 => Shd,
+        7 => DDRC24,
+        8 => DDRC88BM,
+        9 => Nanodigi2x8,
+        10 => C8x12v2,
+        11 => M2x4,
+        12 => Flex,
+        13 => FlexHtx,
+        _ => Generic,
+    }
 }
 
 fn kind_number(kind: DeviceKind) -> usize {

@@ -75,6 +75,14 @@ pub fn front(bytes: &mut [u8], n: usize) -> &mut [u8] {
     &mut bytes[0..n]
 }
 
+// The same of words.
+pub fn front_words(words: &mut [u32], n: usize) -> &mut [u32] {
+    if words.len() < n {
+        return words;
+    }
+    &mut words[0..n]
+}
+
 fn word_of(line: &[u8]) -> Span
     ensures { λ r. ⌜ (r .start ≤ r .end) × (r .end ≤ length (now (line .entry))) ⌝ }
 {

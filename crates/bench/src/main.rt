@@ -2,6 +2,7 @@
 // docs/BENCH.md describes its language. Nothing is decided here but how a line is read and how an
 // answer is written: every answer is a library's.
 mod answers;
+mod calls;
 mod commanding;
 mod console;
 mod devices;
@@ -10,11 +11,13 @@ mod encoding;
 mod frames;
 mod line;
 mod numeric;
+mod processor;
 mod records;
 mod reply;
 mod request;
 mod responding;
 mod row;
+mod state;
 mod status;
 mod values;
 mod viewing;
@@ -23,5 +26,8 @@ mod word;
 fn main() {
     let mut input = [0u8; 65536];
     let mut output = [0u8; 262144];
-    console::run(&mut input, &mut output);
+    // one more than a device takes, so that a memory that is too large can be lent
+    let mut eeprom = [0xffu8; 65537];
+    let mut settings = [0u32; 65537];
+    console::run(&mut input, &mut output, &mut eeprom, &mut settings);
 }

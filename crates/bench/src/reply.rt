@@ -79,6 +79,10 @@ pub fn none(out: &mut [u8], at: usize) -> usize {
     word(b"none", out, at)
 }
 
+pub fn done(out: &mut [u8]) -> usize {
+    word(b"done", out, 0)
+}
+
 pub fn refused(number: u8, out: &mut [u8]) -> usize {
     named(b"refused", number as u64, out, 0)
 }

@@ -7,28 +7,51 @@ use crate::frames;
 use crate::line::first;
 use crate::line::rest;
 use crate::numeric;
+use crate::processor;
 use crate::reply;
 use crate::responding;
+use crate::state::Answered;
+use crate::state::State;
+use crate::state::same;
 use crate::status;
 use crate::values;
 use crate::viewing;
 
 // Puts the answer to a line, and a line end, at the start of out, and answers how many bytes that
 // takes. A line that is too long has lost its start.
-pub fn answer(line: &[u8], out: &mut [u8], long: bool) -> usize {
-    let end = answer_text(line, out, long);
-    reply::text(b"\n", out, end)
+pub fn answer(
+    line: &[u8],
+    long: bool,
+    state: State,
+    eeprom: &mut [u8],
+    settings: &mut [u32],
+    out: &mut [u8],
+) -> Answered {
+    let answered = answer_text(line, long, state, eeprom, settings, out);
+    let state = answered.state;
+    same(reply::text(b"\n", out, answered.end), state)
 }
 
 // A remark and an empty line are answered by themselves.
-fn answer_text(line: &[u8], out: &mut [u8], long: bool) -> usize {
+fn answer_text(
+    line: &[u8],
+    long: bool,
+    state: State,
+    eeprom: &mut [u8],
+    settings: &mut [u32],
+    out: &mut [u8],
+) -> Answered {
     if long {
-        return reply::text(b"bad line: too long", out, 0);
+        return same(reply::text(b"bad line: too long", out, 0), state);
     }
     if line.len() == 0 || line[0] == b'#' {
-        return reply::text(line, out, 0);
+        return same(reply::text(line, out, 0), state);
     }
-    by_verb(first(line), rest(line), out)
+    let answered = processor::by_verb(first(line), rest(line), state, eeprom, settings, out);
+    if 0 < answered.end {
+        return answered;
+    }
+    same(by_verb(first(line), rest(line), out), state)
 }
 
 // Each part is asked in turn whether the verb is its own.

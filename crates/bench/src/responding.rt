@@ -110,9 +110,9 @@ fn put_id(answer: Identified, out: &mut [u8]) -> usize {
     }
 }
 
-fn put_done(answer: Done, out: &mut [u8]) -> usize {
+pub fn put_done(answer: Done, out: &mut [u8]) -> usize {
     match answer {
-        Done::Done => reply::word(b"done", out, 0),
+        Done::Done => reply::done(out),
         Done::Refused(number) => reply::refused(number, out),
     }
 }

@@ -1,5 +1,6 @@
 // What a single word is: bytes, a number in decimal, or a word of 32 bits. The letters of a shape:
-//   x BYTES   r ROOM   n NUMBER   h NUMBER to 65,535   b NUMBER to 255   t BIT   w WORD   - any
+//   x BYTES   p BYTES in pairs   r ROOM   n NUMBER   m NUMBER to 65,537   h NUMBER to 65,535
+//   b NUMBER to 255   t BIT   w WORD   - any
 ghost use Prim.Native.Nat.{_<_};
 
 // The longest packet, frame or payload that a request takes, and the most room.
@@ -32,9 +33,11 @@ pub fn is(word: &[u8], name: &[u8]) -> bool {
 pub fn fits(word: &[u8], letter: u8) -> bool {
     match letter {
         b'x' => is_bytes(word),
+        b'p' => is_bytes(word) && (word.len() % 4 == 0 || word.len() == 1),
         b'w' => is_to(word32(word), 0xffff_ffff),
         b'n' => is_to(decimal(word), 0xffff_ffff),
         b'r' => is_to(decimal(word), LONGEST as u32),
+        b'm' => is_to(decimal(word), 65537),
         b'h' => is_to(decimal(word), 65535),
         b'b' => is_to(decimal(word), 255),
         b't' => is_to(decimal(word), 1),

@@ -73,6 +73,17 @@ pub fn words(response: &Responses, packet: &[u8]) -> String {
     }
 }
 
+/// The record of a device's answer, whose payload begins its bytes.
+pub fn executed(response: &Responses, payload: &[u8]) -> String {
+    match response {
+        Responses::FloatData(view) => format!("FloatData {}", floats_words(view, payload, 0)),
+        Responses::Read { addr, data } => {
+            format!("Read {}{}", addr_words(*addr), values_words(data, payload, 0))
+        }
+        other => words(other, payload),
+    }
+}
+
 pub fn id_words(id: &HardwareId) -> String {
     format!("{} {} {}", id.fw_major, id.fw_minor, id.hw_id)
 }

@@ -27,11 +27,11 @@ fn response(record: &[&str], lent: &mut Lent) -> Bytes {
     answers::response(record, lent).to_bytes()
 }
 
-fn whole(packet: &[u8]) -> Bytes {
+pub fn whole(packet: &[u8]) -> Bytes {
     Bytes::copy_from_slice(packet)
 }
 
-fn framed(packet: &[u8]) -> Bytes {
+pub fn framed(packet: &[u8]) -> Bytes {
     packet::frame(packet)
 }
 

@@ -24,7 +24,12 @@ pub fn written_as(answer: &str, result: &[u8], room: usize) -> String {
 
 /// A refusal, and the output as it was lent.
 pub fn unwritten(number: u8, room: usize) -> String {
-    format!("{} {}", refused(number), hex(&vec![FILL; room]))
+    format!("{} {}", refused(number), untouched(room))
+}
+
+/// An output as it was lent.
+pub fn untouched(room: usize) -> String {
+    hex(&vec![FILL; room])
 }
 
 pub fn refused(number: u8) -> String {

@@ -8,7 +8,7 @@ const LENGTHS: &[usize] = &[
     256, 257, 300,
 ];
 
-fn framed(packet: &[u8]) -> Vec<u8> {
+pub fn framed(packet: &[u8]) -> Vec<u8> {
     let mut frame = vec![(packet.len() + 1) as u8];
     frame.extend_from_slice(packet);
     frame.push(frame.iter().fold(0u8, |sum, &b| sum.wrapping_add(b)));

@@ -7,10 +7,10 @@ use Rattle.bench.proofs.console.serve.Statement.{statement}
 use Rattle.bench.proofs.console.serve.Tie as tie
 
 abbrev Inv-loop : tie.InvT-loop
-Inv-loop input₀ output₀ have₀ long₀ reads₀ input output have long reads = (length input ≡ length input₀) × (length output ≡ length output₀) × (have ≤ length input)
+Inv-loop input₀ output₀ eeprom₀ settings₀ state₀ have₀ long₀ reads₀ input output eeprom settings state have long reads = (length input ≡ length input₀) × (length output ≡ length output₀) × (length eeprom ≡ length eeprom₀) × (length settings ≡ length settings₀) × (have ≤ length input)
 
 abbrev μ-loop : tie.MeasureT-loop
-μ-loop input₀ output₀ have₀ long₀ reads₀ input output have long reads = reads
+μ-loop input₀ output₀ eeprom₀ settings₀ state₀ have₀ long₀ reads₀ input output eeprom settings state have long reads = reads
 
 pub serve-spec : {M : Type 1} → statement M
 serve-spec =
@@ -18,6 +18,7 @@ serve-spec =
     (tie.spec
     Inv-loop
     μ-loop
+    (λ c κs. search needs)
     (λ c. search needs)
     (λ c. search needs)
     (λ c κs. search needs)
@@ -32,9 +33,13 @@ serve-spec =
     (λ c. search needs)
     (λ c. search needs)
     (λ c. search needs)
+    (λ c. search needs)
+    (λ c. search needs)
     (λ c κs. search needs)
     (λ c κs. search needs)
     (λ c κs. search needs)
+    (λ c. search needs)
+    (λ c. search needs)
     (λ c. search needs)
     (λ c. search needs)
     (λ c. search needs)
