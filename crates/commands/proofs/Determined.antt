@@ -8,6 +8,7 @@ use Rattle.octets.specs.declared.Written.{Written}
 use Rattle.octets.proofs.Agree.{Fixes, agree, both}
 use Rattle.octets.proofs.Determined.{written-once}
 use Rattle.fields.specs.declared.addr.Addr.{Addr}
+use Rattle.fields.specs.declared.value.Coefficient.{Coefficient}
 use Rattle.fields.specs.declared.value.Value.{Value}
 use Rattle.commands.specs.Decode.{parsed}
 use Rattle.commands.specs.declared.Commands.{Commands}
@@ -19,6 +20,7 @@ use Rattle.commands.proofs.Commands.from_bytes.Reads as from-bytes
 use Rattle.commands.proofs.Commands.to_bytes.Reads as to-bytes
 use Rattle.commands.proofs.Commands.to_frame.Reads as to-frame
 use Rattle.commands.proofs.Commands.mute.Reads as mute
+use Rattle.commands.proofs.decode.no_values.Reads as no-values
 use Rattle.commands.proofs.dialect.Dialect.const_default.Reads as const-default
 use Rattle.commands.proofs.dialect.Dialect.addr.Reads as addr
 use Rattle.commands.proofs.dialect.Dialect.float.Reads as float
@@ -44,6 +46,9 @@ to-bytes-fixed κs args a b x y p q = both written written-once (agree p q)
 
 pub to-frame-fixed : Fixes (Written × List ℕ) to-frame.Post (λ κs answer left. (answer, now (left .1 .1 .1 .0)))
 to-frame-fixed κs args a b x y p q = both written written-once (agree p q)
+
+pub no-values-fixed : Fixes (List Coefficient) no-values.Post (λ κs answer left. answer)
+no-values-fixed κs args a b x y p q = agree p q
 
 pub mute-fixed : Fixes Commands mute.Post (λ κs answer left. answer)
 mute-fixed κs args a b x y p q = agree p q

@@ -270,7 +270,7 @@ fn values_at(p: &[u8]) -> [Coefficient; 5]
     five_from(k + 3)
 }
 
-fn no_values() -> [Coefficient; 5]
+pub fn no_values() -> [Coefficient; 5]
     ensures { λ r. ⌜ r ≡ noValues ⌝ }
 {
     let zero = Coefficient {

@@ -1,5 +1,6 @@
 -- Each public function's contract fixes its answer and what it leaves.
 use mathlib.Core.Path.{_≡_, sym, ap, _∙_}
+use mathlib.Core.Bool.{Bool}
 use mathlib.Core.List.{List}
 use Prim.Native.Nat.{ℕ}
 use denote.Ref.{now}
@@ -19,6 +20,9 @@ use Rattle.device.specs.declared.create.Made.the-variants.{Device as Is,
 use Rattle.device.specs.declared.execute.Executed.{Executed}
 use Rattle.device.specs.declared.execute.Executed.the-variants.{Response, Refused as NotExecuted}
 use Rattle.device.specs.declared.tally.Tally.{Tally}
+use Rattle.device.proofs.wrong_sizes.Reads as wrong-sizes
+use Rattle.device.proofs.put_bytes.Reads as put-bytes
+use Rattle.device.proofs.put_word.Reads as put-word
 use Rattle.device.proofs.create.bare.Reads as bare
 use Rattle.device.proofs.create.new.Reads as new
 use Rattle.device.proofs.memory.write_eeprom_u8.Reads as write-u8
@@ -49,6 +53,15 @@ executed-once (NotExecuted j) (NotExecuted k) h = cc
 -- as `both` of octets, with two things left beside the answer
 three : {A B C D : Type 0} {a b : A} {x y : C} {u v : D} (f : A → B) → ((a b : A) → f a ≡ f b → a ≡ b) → _≡_ {A = B × C × D} (f a, x, u) (f b, y, v) → _≡_ {A = A × C × D} (a, x, u) (b, y, v)
 three {B = B} {C = C} {D = D} {a} {b} f once e = λ i. (once a b (ap (λ (t : B × C × D). t .0) e) i, e i .1, e i .2)
+
+pub wrong-sizes-fixed : Fixes Bool wrong-sizes.Post (λ κs answer left. answer)
+wrong-sizes-fixed κs args a b x y p q = agree p q
+
+pub put-bytes-fixed : Fixes (List ℕ) put-bytes.Post (λ κs answer left. now (left .1 .1 .0))
+put-bytes-fixed κs args a b x y p q = agree p q
+
+pub put-word-fixed : Fixes (List ℕ) put-word.Post (λ κs answer left. now (left .1 .1 .0))
+put-word-fixed κs args a b x y p q = agree p q
 
 pub bare-fixed : Fixes (Made × Memory) bare.Post (λ κs answer left. (answer, memory (now (left .1 .1 .1 .1 .0)) (now (left .1 .1 .1 .1 .1 .0))))
 bare-fixed κs args a b x y p q = both made made-once (agree p q)

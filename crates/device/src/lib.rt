@@ -25,7 +25,7 @@ pub struct Device {
 pub const MOST: usize = 65536;
 
 // Whether a memory is too large.
-fn wrong_sizes(eeprom: usize, settings: usize) -> bool
+pub fn wrong_sizes(eeprom: usize, settings: usize) -> bool
     ensures { λ r. ⌜ r ≡ wrongSizes eeprom settings ⌝ }
 {
     if MOST < eeprom {
@@ -38,13 +38,13 @@ fn wrong_sizes(eeprom: usize, settings: usize) -> bool
 }
 
 // Writes that are inside; others write nothing.
-fn put_bytes(addr: u16, bytes: &[u8], eeprom: &mut [u8])
+pub fn put_bytes(addr: u16, bytes: &[u8], eeprom: &mut [u8])
     ensures { λ _. ⌜ now (eeprom .exit) ≡ putAt addr (now (bytes .entry)) (now (eeprom .entry)) ⌝ }
 {
     octets::put_at(bytes, addr as usize, eeprom);
 }
 
-fn put_word(addr: usize, value: u32, settings: &mut [u32])
+pub fn put_word(addr: usize, value: u32, settings: &mut [u32])
     ensures { λ _. ⌜ now (settings .exit) ≡ putAt addr (value ∷ []) (now (settings .entry)) ⌝ }
 {
     if addr < settings.len() {
