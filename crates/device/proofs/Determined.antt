@@ -6,7 +6,7 @@ use Prim.Native.Nat.{ℕ}
 use denote.Ref.{now}
 use Rattle.octets.specs.Outcome.{written}
 use Rattle.octets.specs.declared.Written.{Written}
-use Rattle.octets.proofs.Agree.{Fixes, agree, both}
+use Rattle.octets.proofs.Agree.{Fixes, agree, both, three}
 use Rattle.octets.proofs.Determined.{written-once}
 use Rattle.responses.specs.Kind.{done}
 use Rattle.responses.specs.declared.kind.Done.{Done}
@@ -49,10 +49,6 @@ executed-once (Response r) (Response s) h = cc
 executed-once (Response r) (NotExecuted k) h = cc
 executed-once (NotExecuted k) (Response s) h = cc
 executed-once (NotExecuted j) (NotExecuted k) h = cc
-
--- as `both` of octets, with two things left beside the answer
-three : {A B C D : Type 0} {a b : A} {x y : C} {u v : D} (f : A → B) → ((a b : A) → f a ≡ f b → a ≡ b) → _≡_ {A = B × C × D} (f a, x, u) (f b, y, v) → _≡_ {A = A × C × D} (a, x, u) (b, y, v)
-three {B = B} {C = C} {D = D} {a} {b} f once e = λ i. (once a b (ap (λ (t : B × C × D). t .0) e) i, e i .1, e i .2)
 
 pub wrong-sizes-fixed : Fixes Bool wrong-sizes.Post (λ κs answer left. answer)
 wrong-sizes-fixed κs args a b x y p q = agree p q

@@ -1,7 +1,7 @@
 -- The payload of an answer, which comes from the memories.
-use Prim.Native.Nat.{ℕ, _-_, _*_}
+use Prim.Native.Nat.{ℕ, _-_}
 use mathlib.Core.List.{List, [], _∷_, _++_}
-use lib.ListN.{length, take, drop, replicate}
+use lib.ListN.{take, drop, replicate}
 use Rattle.octets.specs.Number.{littleBytes}
 use Rattle.octets.specs.Place.{placeAt, partOf}
 use Rattle.responses.specs.declared.Responses.{Responses}
@@ -31,15 +31,3 @@ dataOf m (FirLoadSize size) = []
 dataOf m ConfigChanged = []
 dataOf m Unk02 = []
 dataOf m (Unknown id payload) = []
-
--- how long it is at most
-abbrev pub dataLength : Responses → ℕ
-dataLength Ack = 0
-dataLength (Read addr values) = 0
-dataLength (MemoryData view) = view .data .len
-dataLength (FloatData view) = view .count * 4
-dataLength (HardwareId id) = 0
-dataLength (FirLoadSize size) = 0
-dataLength ConfigChanged = 0
-dataLength Unk02 = 0
-dataLength (Unknown id payload) = 0

@@ -1,12 +1,12 @@
 -- What the enums of effect.rt stand for.
-use Prim.Native.Nat.{ℕ}
+use Prim.Native.Nat.{ℕ, _*_}
 use mathlib.Core.List.{List, [], _∷_}
 use Rattle.octets.specs.Outcome.{Outcome, accepted, refused}
 use Rattle.octets.specs.Place.{partOf}
 use Rattle.responses.specs.declared.Responses.{Responses}
+use Rattle.responses.specs.declared.Responses.the-variants.{Ack, Read, MemoryData, FloatData, HardwareId, FirLoadSize, ConfigChanged, Unk02, Unknown}
 use Rattle.device.specs.Memory.{Write, bytes, word}
 use Rattle.device.specs.Effect.{Effect, effect}
-use Rattle.device.specs.Data.{dataLength}
 use Rattle.device.specs.declared.effect.Write.{Write as Stores}
 use Rattle.device.specs.declared.effect.Write.the-variants.{Nothing, Byte, Bytes, Word}
 use Rattle.device.specs.declared.effect.Decided.{Decided}
@@ -26,7 +26,18 @@ decided p (Refused k) = refused k
 abbrev pub does : Responses → Stores → Decided
 does response write = Does (record { response = response; write = write })
 
--- how long the payload of the answer is at most
+-- how long the payload of an answer is at most
+abbrev pub dataLength : Responses → ℕ
+dataLength Ack = 0
+dataLength (Read addr values) = 0
+dataLength (MemoryData view) = view .data .len
+dataLength (FloatData view) = view .count * 4
+dataLength (HardwareId id) = 0
+dataLength (FirLoadSize size) = 0
+dataLength ConfigChanged = 0
+dataLength Unk02 = 0
+dataLength (Unknown id payload) = 0
+
 abbrev pub answerLength : Decided → ℕ
 answerLength (Does d) = dataLength (d .response)
 answerLength (Refused k) = 0

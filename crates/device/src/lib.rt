@@ -5,7 +5,6 @@ ghost use Rattle.device.specs.Memory.{wrongSizes, putAt};
 use facts::probe::DeviceKind;
 
 pub mod create;
-mod data;
 mod effect;
 pub mod execute;
 pub mod memory;

@@ -3,8 +3,8 @@ use Rattle.device.proofs.Payload.{over-nothing}
 use mathlib.Core.Path.{refl}
 use native.Mathlib.Omega.{arith}
 use borrow.Author.Needs.{needs}
-use Rattle.device.proofs.data.put_data.Statement.{statement}
-use Rattle.device.proofs.data.put_data.Tie as tie
+use Rattle.device.proofs.execute.put_data.Statement.{statement}
+use Rattle.device.proofs.execute.put_data.Tie as tie
 
 put-memory-requires : tie.Need-put-memory-requires
 put-memory-requires c κs = let r = c .before .before .before in let p = r .before .before .before .before .before .pre in (rw (r .response .given .1) at (p .0), p .1)

@@ -9,8 +9,8 @@ use Rattle.octets.specs.Number.{littleBytes}
 use Rattle.octets.specs.Over.{over}
 use Rattle.device.specs.Data.{wordBytes}
 use Rattle.device.proofs.Payload.{over-nothing, words-all, words-finish, words-next, words-room}
-use Rattle.device.proofs.data.put_words.Statement.{statement}
-use Rattle.device.proofs.data.put_words.Tie as tie
+use Rattle.device.proofs.execute.put_words.Statement.{statement}
+use Rattle.device.proofs.execute.put_words.Tie as tie
 
 abbrev Inv-loop : tie.InvT-loop
 Inv-loop base count settings data₀ i₀ «data» i =

@@ -5,8 +5,8 @@ use native.Mathlib.Omega.{arith}
 use Prim.Native.Nat.{ℕ, _-_, _≤_}
 use lib.ListN.{length}
 use borrow.Author.Needs.{needs}
-use Rattle.device.proofs.data.put_memory.Statement.{statement}
-use Rattle.device.proofs.data.put_memory.Tie as tie
+use Rattle.device.proofs.execute.put_memory.Statement.{statement}
+use Rattle.device.proofs.execute.put_memory.Tie as tie
 
 sub-put-2 : tie.Need-sub-put-2
 sub-put-2 c = let part = c .before .before .before .before .before .before in omega (arith, found-le (part .before .before .before .before .args .eeprom .now) (part .before .before .before .before .args .base) (part .before .taken .result) (part .part .ensures), part .before .taken .ensures .1)
