@@ -21,8 +21,6 @@ use Rattle.device.specs.declared.execute.Executed.{Executed}
 use Rattle.device.specs.declared.execute.Executed.the-variants.{Response, Refused as NotExecuted}
 use Rattle.device.specs.declared.tally.Tally.{Tally}
 use Rattle.device.proofs.wrong_sizes.Reads as wrong-sizes
-use Rattle.device.proofs.put_bytes.Reads as put-bytes
-use Rattle.device.proofs.put_word.Reads as put-word
 use Rattle.device.proofs.create.bare.Reads as bare
 use Rattle.device.proofs.create.new.Reads as new
 use Rattle.device.proofs.memory.write_eeprom_u8.Reads as write-u8
@@ -52,12 +50,6 @@ executed-once (NotExecuted j) (NotExecuted k) h = cc
 
 pub wrong-sizes-fixed : Fixes Bool wrong-sizes.Post (λ κs answer left. answer)
 wrong-sizes-fixed κs args a b x y p q = agree p q
-
-pub put-bytes-fixed : Fixes (List ℕ) put-bytes.Post (λ κs answer left. now (left .1 .1 .0))
-put-bytes-fixed κs args a b x y p q = agree p q
-
-pub put-word-fixed : Fixes (List ℕ) put-word.Post (λ κs answer left. now (left .1 .1 .0))
-put-word-fixed κs args a b x y p q = agree p q
 
 pub bare-fixed : Fixes (Made × Memory) bare.Post (λ κs answer left. (answer, memory (now (left .1 .1 .1 .1 .0)) (now (left .1 .1 .1 .1 .1 .0))))
 bare-fixed κs args a b x y p q = both made made-once (agree p q)

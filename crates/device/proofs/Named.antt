@@ -9,9 +9,9 @@ use lib.Seq.{getD-take, getD-drop, getD-append-add, take-at}
 use Rattle.octets.specs.Number.{at}
 use Rattle.octets.specs.Over.{over, overAt}
 use Rattle.octets.proofs.Choosing.{either-lt, either-eq}
+use Rattle.octets.proofs.Overlay.{put-inside}
 use Rattle.device.specs.Memory.{Memory, Write, bytes, word, put, putAt}
 use Rattle.device.specs.Named.{byteOf, wordOf, orBefore, Within}
-use Rattle.device.proofs.Stores.{put-inside}
 
 -- in one list behind another
 front : (xs ys : List ℕ) (i : ℕ) → i < length xs → at (xs ++ ys) i ≡ at xs i
@@ -49,12 +49,12 @@ module _ (a : ℕ) (b l : List ℕ) (h : a + length b ≤ length l) where
 
 -- each byte and word after a write that lies within
 pub byte-after : (w : Write) (m : Memory) → Within (length (m .eeprom)) (length (m .settings)) w → (i : ℕ) → at (put w m .eeprom) i ≡ orBefore (byteOf w i) (at (m .eeprom) i)
-byte-after (bytes a b) m h i = ap (λ (l : List ℕ). at l i) (sym (put-inside a b (m .eeprom) h)) ∙ byte-over a b (m .eeprom) h i
+byte-after (bytes a b) m h i = ap (λ (l : List ℕ). at l i) (sym (put-inside (m .eeprom) a b h)) ∙ byte-over a b (m .eeprom) h i
 byte-after (word a w) m h i = refl
 
 pub word-after : (w : Write) (m : Memory) → Within (length (m .eeprom)) (length (m .settings)) w → (i : ℕ) → at (put w m .settings) i ≡ orBefore (wordOf w i) (at (m .settings) i)
 word-after (bytes a b) m h i = refl
-word-after (word a w) m h i = ap (λ (l : List ℕ). at l i) (sym (put-inside a (w ∷ []) s room)) ∙ at-word
+word-after (word a w) m h i = ap (λ (l : List ℕ). at l i) (sym (put-inside s a (w ∷ []) room)) ∙ at-word
   where
     s : List ℕ
     s = m .settings

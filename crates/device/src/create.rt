@@ -8,7 +8,6 @@ ghost use Rattle.device.specs.Create.{made, deviceOf, bareOf, newOf, new
 use crate::Device;
 use crate::MOST;
 use crate::put_bytes;
-use crate::put_word;
 use crate::wrong_sizes;
 use facts::eeprom as address;
 use facts::probe::DeviceKind;
@@ -135,7 +134,7 @@ fn set_meters(meters: &[u16], settings: &mut [u32])
 {
     let mut i = 0;
     while i < meters.len() {
-        put_word(meter(meters, i) as usize, METER, settings);
+        octets::put_word(meter(meters, i) as usize, METER, settings);
         i += 1;
     }
 }

@@ -14,7 +14,6 @@ use crate::effect::Write;
 use crate::effect::decide;
 use crate::effect::taken;
 use crate::put_bytes;
-use crate::put_word;
 use crate::wrong_sizes;
 use commands::Commands;
 use commands::decode::Parsed;
@@ -233,6 +232,6 @@ fn store(write: Write, payload: &[u8], eeprom: &mut [u8], settings: &mut [u32])
         Write::Nothing => {}
         Write::Byte { addr, value } => put_bytes(addr, &[value], eeprom),
         Write::Bytes { addr, data } => put_bytes(addr, octets::part(payload, data), eeprom),
-        Write::Word { addr, value } => put_word(addr as usize, value, settings),
+        Write::Word { addr, value } => octets::put_word(addr as usize, value, settings),
     }
 }

@@ -1,6 +1,5 @@
 // The processor: a mock of a device, on two memories that its caller lends. (mock_device.rs)
 ghost use mathlib.Core.Path.{_≡_};
-ghost use mathlib.Core.List.{[], _∷_};
 ghost use Rattle.device.specs.Memory.{wrongSizes, putAt};
 use facts::probe::DeviceKind;
 
@@ -37,16 +36,8 @@ pub fn wrong_sizes(eeprom: usize, settings: usize) -> bool
 }
 
 // Writes that are inside; others write nothing.
-pub fn put_bytes(addr: u16, bytes: &[u8], eeprom: &mut [u8])
+fn put_bytes(addr: u16, bytes: &[u8], eeprom: &mut [u8])
     ensures { λ _. ⌜ now (eeprom .exit) ≡ putAt addr (now (bytes .entry)) (now (eeprom .entry)) ⌝ }
 {
     octets::put_at(bytes, addr as usize, eeprom);
-}
-
-pub fn put_word(addr: usize, value: u32, settings: &mut [u32])
-    ensures { λ _. ⌜ now (settings .exit) ≡ putAt addr (value ∷ []) (now (settings .entry)) ⌝ }
-{
-    if addr < settings.len() {
-        settings[addr] = value;
-    }
 }

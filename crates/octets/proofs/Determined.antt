@@ -10,6 +10,7 @@ use Rattle.octets.specs.declared.Written.{Written}
 use Rattle.octets.specs.declared.Written.the-variants.{Bytes, Refused}
 use Rattle.octets.proofs.Agree.{Fixes, agree, both}
 use Rattle.octets.proofs.put.Reads as put
+use Rattle.octets.proofs.put_word.Reads as put-word
 use Rattle.octets.proofs.put_at.Reads as put-at
 use Rattle.octets.proofs.outside.Reads as outside
 use Rattle.octets.proofs.floats_outside.Reads as floats-outside
@@ -50,6 +51,9 @@ rest-of-fixed κs args a b x y p q = agree p q
 
 pub part-fixed : Fixes (List ℕ) part.Post (λ κs answer left. now answer)
 part-fixed κs args a b x y p q = agree p q
+
+pub put-word-fixed : Fixes (List ℕ) put-word.Post (λ κs answer left. now (left .1 .1 .0))
+put-word-fixed κs args a b x y p q = agree p q
 
 pub byte-fixed : Fixes ℕ byte.Post (λ κs answer left. answer)
 byte-fixed κs args a b x y p q = agree p q

@@ -1,4 +1,5 @@
 pub mod Choosing
+pub mod Outcomes
 pub mod Overlay
 pub mod Agree
 pub mod Determined

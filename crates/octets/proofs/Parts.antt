@@ -60,6 +60,11 @@ part-part l s n i k h g =
     ap (λ (m : ℕ). drop i (take m d)) e ∙ rw (take-add i (n - i) d) (drop-at (take i d) (take (n - i) (drop i d)) i (length-take-le i d (omega arith))) in
     rw (cut, take-take k (n - i) (drop i d) (omega arith), drop-drop i s l)
 
+-- all that is left behind the first n bytes
+pub part-rest : (l : List ℕ) (n : ℕ) → partOf l (placeAt n (length l - n)) ≡ drop n l
+unfolding partOf
+part-rest l n = take-all (length l - n) (drop n l) (omega (arith, length-drop n l))
+
 -- behind other bytes
 pub part-behind : (a l : List ℕ) (i n : ℕ) → partOf (a ++ l) (placeAt (length a + i) n) ≡ partOf l (placeAt i n)
 unfolding partOf

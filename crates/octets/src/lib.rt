@@ -1,6 +1,7 @@
 // What every format of the port needs: refusal numbers under names, places in lent bytes, bytes
 // written over the start of a lent output, and numbers in bytes.
 ghost use mathlib.Core.Path.{_≡_};
+ghost use mathlib.Core.List.{[], _∷_};
 ghost use lib.ListN.{length};
 ghost use Rattle.octets.specs.Outcome.{written};
 ghost use Rattle.octets.specs.Over.{into, intoAt};
@@ -42,6 +43,15 @@ pub fn put_at(bytes: &[u8], place: usize, memory: &mut [u8]) -> Written
         return Written::Refused(refusal::OUTSIDE);
     }
     put(bytes, &mut memory[place..])
+}
+
+// Writes one word of a memory of words; where the place is outside, nothing.
+pub fn put_word(place: usize, word: u32, memory: &mut [u32])
+    ensures { λ _. ⌜ now (memory .exit) ≡ intoAt place (word ∷ []) (now (memory .entry)) .1 ⌝ }
+{
+    if place < memory.len() {
+        memory[place] = word;
+    }
 }
 
 // A place in lent bytes, which stands for the bytes there.

@@ -1,0 +1,113 @@
+-- Laws of judging: what is left to judge after one field, and what one frame is judged by.
+use Prim.Native.Nat.{ℕ, suc, _+_, _-_, _≤_, _<_}
+use mathlib.Core.Path.{_≡_, refl, sym, ap, _∙_}
+use mathlib.Core.List.{List, [], _∷_}
+use native.Mathlib.Omega.{arith}
+use lib.ListN.{length, take, getD}
+use Rattle.octets.specs.Refusals.{checksum}
+use Rattle.octets.specs.Outcome.{Outcome, accepted, refused, onAccepted, andThen}
+use Rattle.octets.specs.Choice.{ifLt, ifEq}
+use Rattle.octets.specs.Place.{partOf}
+use Rattle.octets.specs.declared.Place.{Place}
+use Rattle.octets.proofs.Choosing.{same, other, if-of, if-eq-of, was-above, was-other}
+use Rattle.packet.specs.Frame.{checksumOf}
+use Rattle.packet.specs.Receipt.{lengthByte, packetAt, strictOf}
+use Rattle.device.specs.Memory.{Write}
+use Rattle.saves.specs.Stream.{contentOf, behind, tagOf, streamOf, endOf}
+use Rattle.saves.specs.Means.{packetMeans, frameMeans, allMean}
+use Rattle.saves.specs.Judged.{sound, receiptOf, packetIn}
+use Rattle.saves.specs.Replay.{fieldsMean, Save}
+use Rattle.saves.specs.declared.judge.Shape.{Shape}
+use Rattle.saves.proofs.Streams.{stream-frame, stream-end}
+
+-- whether it is sound does not hang on what is made of it
+sound-then : {A : Type 0} (o : Outcome Unit) (a : A) → sound (andThen o (λ u. accepted a)) ≡ o
+sound-then (accepted u) a = refl
+sound-then (refused k) a = refl
+
+-- ---- fields
+module _ (e s n : ℕ) (l : List ℕ) where
+  pub none-left : (tagOf l ≡ 0x10 → ⊥) → endOf n l ≡ sound (fieldsMean e s n l)
+  unfolding fieldsMean
+  none-left h = let z : n + 0 ≡ n = omega arith in rw (stream-end l h, z) (sym (sound-then (endOf n l) []))
+
+  pub frame-first : tagOf l ≡ 0x10 → sound (fieldsMean e s n l) ≡ andThen (sound (frameMeans e s (contentOf l))) (λ u. sound (fieldsMean e s (n + 1) (behind l)))
+  unfolding fieldsMean
+  frame-first h = rw (stream-frame l h) (first (frameMeans e s (contentOf l)) (allMean e s (streamOf (behind l) .frames)))
+    where
+      tail : List ℕ
+      tail = streamOf (behind l) .tail
+
+      first : (o : Outcome Write) (os : Outcome (List Write))
+          → sound (andThen (andThen o (λ w. andThen os (λ ws. accepted (w ∷ ws)))) (λ (ws : List Write). andThen (endOf (n + length ws) tail) (λ u. accepted ws)))
+          ≡ andThen (sound o) (λ u. sound (andThen os (λ (ws : List Write). andThen (endOf (n + 1 + length ws) tail) (λ u. accepted ws))))
+      first (refused k) os = refl
+      first (accepted w) (refused k) = refl
+      first (accepted w) (accepted ws) =
+          let c : n + length (w ∷ ws) ≡ n + 1 + length ws = omega arith in
+          sound-then (endOf (n + length (w ∷ ws)) tail) (w ∷ ws) ∙ ap (λ (m : ℕ). endOf m tail) c ∙ sym (sound-then (endOf (n + 1 + length ws) tail) ws)
+
+-- ---- one frame
+module _ (f : List ℕ) where
+  -- "9"
+  abbrev pub summed : {A : Type 0} → Outcome A → Outcome A
+  summed o = ifEq (checksumOf (take (lengthByte f) f)) (getD f (lengthByte f) 0) o (refused checksum)
+
+  strict-is : strictOf f ≡ andThen (receiptOf f) (λ u. summed (packetAt f))
+  strict-is = sym (if-eq-of go _ _ _ _ ∙ ap (ifEq (lengthByte f) 0 (refused 1)) (if-of go _ _ _ _ ∙ ap (ifLt (length f) (lengthByte f + 1) (refused 2)) (if-of go _ _ _ _)))
+    where
+      go : Outcome Unit → Outcome Place
+      go o = andThen o (λ u. summed (packetAt f))
+
+  pub frame-is : (e s : ℕ) → frameMeans e s f ≡ andThen (receiptOf f) (λ u. summed (packetMeans e s (packetIn f)))
+  unfolding frameMeans
+  frame-is e s = rw strict-is (go (receiptOf f))
+    where
+      meant : Outcome Place → Outcome Write
+      meant o = andThen o (λ (place : Place). packetMeans e s (partOf f place))
+
+      go : (o : Outcome Unit) → meant (andThen o (λ u. summed (packetAt f))) ≡ andThen o (λ u. summed (packetMeans e s (packetIn f)))
+      go (accepted u) = if-eq-of meant _ _ _ _
+      go (refused k) = refl
+
+  frame-judged : (e s : ℕ) → sound (frameMeans e s f) ≡ andThen (receiptOf f) (λ u. summed (sound (packetMeans e s (packetIn f))))
+  frame-judged e s = rw (frame-is e s) (go (receiptOf f))
+    where
+      go : (o : Outcome Unit) → sound (andThen o (λ u. summed (packetMeans e s (packetIn f)))) ≡ andThen o (λ u. summed (sound (packetMeans e s (packetIn f))))
+      go (accepted u) = if-eq-of sound _ _ _ _
+      go (refused k) = refl
+
+  -- a frame that is received is as long as it says
+  pub as-long : accepted tt ≡ receiptOf f → length f ≡ lengthByte f + 1
+  as-long h =
+      let a = was-other _ _ _ _ (sym h) in
+      let b = was-above _ _ _ _ (a .1) in
+      let c = was-above _ _ _ _ (b .1) in omega (arith, b .0, c .0)
+
+-- ---- the frame f at the front of l, as the scan finds it: each way on, and each way out
+module _ (e s n : ℕ) (l f : List ℕ) (tag : tagOf l ≡ 0x10) (is : f ≡ contentOf l) where
+  judged-by : sound (fieldsMean e s n l) ≡ andThen (andThen (receiptOf f) (λ u. summed f (sound (packetMeans e s (packetIn f))))) (λ u. sound (fieldsMean e s (n + 1) (behind l)))
+  judged-by = frame-first e s n l tag ∙ ap (λ (o : Outcome Unit). andThen o (λ u. sound (fieldsMean e s (n + 1) (behind l)))) (ap (λ (c : List ℕ). sound (frameMeans e s c)) (sym is) ∙ frame-judged f e s)
+
+  pub not-received : {k : ℕ} → refused k ≡ receiptOf f → refused k ≡ sound (fieldsMean e s n l)
+  not-received h = sym (judged-by ∙ rw (← h))
+
+  module _ (received : accepted tt ≡ receiptOf f) where
+    pub not-summed : (checksumOf (take (lengthByte f) f) ≡ getD f (lengthByte f) 0 → ⊥) → refused checksum ≡ sound (fieldsMean e s n l)
+    not-summed h = sym (judged-by ∙ rw (← received, ← other _ _ _ _ _ h refl))
+
+    module _ (sums : checksumOf (take (lengthByte f) f) ≡ getD f (lengthByte f) 0) (p : List ℕ) (holds : p ≡ packetIn f) where
+      pub not-meant : {k : ℕ} → refused k ≡ sound (packetMeans e s p) → refused k ≡ sound (fieldsMean e s n l)
+      not-meant h = sym (judged-by ∙ rw (← received, ← holds, ← h, ← same _ _ _ _ _ sums refl))
+
+      pub goes-on : accepted tt ≡ sound (packetMeans e s p) → sound (fieldsMean e s (n + 1) (behind l)) ≡ sound (fieldsMean e s n l)
+      goes-on h = sym (judged-by ∙ rw (← received, ← holds, ← h, ← same _ _ _ _ _ sums refl))
+
+-- ---- what is told of a save that is read
+pub only-shape : (shape : Shape) (o : Outcome (List Write)) → onAccepted (λ (s : Save). s .shape) (andThen o (λ (ws : List Write). accepted (record { shape = shape; writes = ws }))) ≡ onAccepted (λ u. shape) (sound o)
+only-shape shape (accepted ws) = refl
+only-shape shape (refused k) = refl
+
+pub still-sound : (o : Outcome Save) → sound o ≡ sound (onAccepted (λ (s : Save). s .shape) o)
+still-sound (accepted save) = refl
+still-sound (refused k) = refl

@@ -1,0 +1,10 @@
+pub mod Streams
+pub mod Judging
+pub mod Storing
+pub mod Saved
+pub mod Fields
+pub mod Writes
+pub mod Rising
+pub mod Round
+pub mod Codec
+pub mod Determined

@@ -1,0 +1,157 @@
+-- Laws of a save: what its packets are, how long its parts are, and that it is found where it was written.
+use Prim.Native.Nat.{ℕ, zero, suc, _+_, _-_, _*_, _/_, _%_, _^_, _≤_, min}
+use mathlib.Core.Path.{_≡_, refl, sym, ap, _∙_}
+use mathlib.Core.Bool.{true, false, true≢false}
+use mathlib.Core.List.{List, [], _∷_, _++_, append-assoc, append-nil}
+use native.Mathlib.Numerals.{add-one}
+use native.Mathlib.Omega.{arith}
+use lib.ListN.{length, take, drop, length-append, length-take, length-drop}
+use lib.Seq.{take-all, take-at}
+use Rattle.octets.specs.Number.{at, bigBytes, littleBytes}
+use Rattle.octets.specs.Place.{placeAt, partOf}
+use Rattle.octets.specs.Choice.{ifLt, ifEq}
+use Rattle.octets.specs.Outcome.{Outcome, accepted}
+use Rattle.octets.specs.Over.{over, into}
+use Rattle.octets.proofs.Choosing.{above, passed}
+use Rattle.octets.proofs.InBytes.{length-big, length-little}
+use Rattle.octets.proofs.Overlay.{put-over, put-rest, over-rest, length-over}
+use Rattle.octets.proofs.Parts.{part-short, is-inside}
+use Rattle.packet.proofs.Frames.{length-frame}
+use Rattle.fields.specs.Addr.{addrOf, addrBytes}
+use Rattle.fields.specs.Row.{packetOf, anyOf, encodedOf}
+use Rattle.fields.specs.declared.value.Value.the-variants.{Unknown}
+use Rattle.commands.specs.Encode.{rowOf}
+use Rattle.commands.specs.declared.Commands.the-variants.{WriteMemory, Write}
+use Rattle.device.specs.Memory.{Memory, wrongSizes}
+use Rattle.saves.specs.Save.{field, shapeField, frameField, blockAt, memoryPacket, wordPacket, rising, endField, blocks, fieldsFor, saveOf, room}
+
+-- ---- the packets
+-- a place that runs to the end has all that is left
+part-left : (l : List ℕ) (n : ℕ) → partOf l (placeAt n (length l - n)) ≡ drop n l
+unfolding partOf
+part-left l n = take-all (length l - n) (drop n l) (omega (arith, length-drop n l))
+
+part-whole : (l : List ℕ) (n : ℕ) → length l ≡ n → partOf l (placeAt 0 n) ≡ l
+unfolding partOf
+part-whole l n e = take-all n l (omega arith)
+
+module _ (eeprom : List ℕ) (k : ℕ) where
+  pub block-bytes : partOf eeprom (blockAt (length eeprom) k) ≡ take 32 (drop (32 * k) eeprom)
+  block-bytes = part-short eeprom (placeAt (32 * k) (length eeprom - 32 * k)) 32 ∙ ap (take 32) (part-left eeprom (32 * k))
+
+  pub memory-packet : memoryPacket eeprom k ≡ 0x04 ∷ (bigBytes 2 (32 * k) ++ take 32 (drop (32 * k) eeprom))
+  unfolding memoryPacket packetOf
+  memory-packet = rw (append-nil, block-bytes)
+
+  pub length-memory-packet : length (memoryPacket eeprom k) ≡ 3 + min 32 (length eeprom - 32 * k)
+  length-memory-packet = rw (memory-packet, length-append, length-big, length-take, length-drop) (omega arith)
+
+  pub memory-accepted : 32 * k ≤ length eeprom → encodedOf eeprom (rowOf (WriteMemory (32 * k) (blockAt (length eeprom) k)) []) ≡ accepted (memoryPacket eeprom k)
+  unfolding encodedOf anyOf memoryPacket
+  memory-accepted h =
+      let e : ℕ = length eeprom in
+      rw (← is-inside (blockAt e k) e (omega arith)) (sym (above _ _ _ _ _ (omega (arith, length-memory-packet)) refl))
+
+module _ (settings : List ℕ) (k : ℕ) where
+  pub word-packet : wordPacket settings k ≡ 0x13 ∷ (bigBytes 3 (k % 2 ^ 23 + 2 ^ 23) ++ littleBytes 4 (at settings k))
+  unfolding wordPacket packetOf addrBytes
+  word-packet = rw (append-nil, part-whole (littleBytes 4 (at settings k)) 4 (length-little 4 (at settings k)))
+
+  pub length-word-packet : length (wordPacket settings k) ≡ 8
+  length-word-packet = rw (word-packet, length-append, length-big, length-little)
+
+  pub word-accepted : encodedOf (littleBytes 4 (at settings k)) (rowOf (Write (addrOf k 3 true) (Unknown (placeAt 0 4))) []) ≡ accepted (wordPacket settings k)
+  unfolding encodedOf anyOf ifEq wordPacket
+  word-accepted =
+      let b : List ℕ = littleBytes 4 (at settings k) in
+      rw (← is-inside (placeAt 0 4) (length b) (omega (arith, length-little 4 (at settings k)))) (sym (above _ _ _ _ _ (omega (arith, length-word-packet)) refl))
+
+-- ---- how long its parts are
+pub length-field : (tag : ℕ) (content : List ℕ) → length (field tag content) ≡ 3 + length content
+unfolding field
+length-field tag content = rw (length-append, length-big) (omega arith)
+
+pub length-shape : (e s : ℕ) → length (shapeField e s) ≡ 11
+unfolding shapeField
+length-shape e s = rw (length-field, length-append, length-big 4 e, length-big 4 s)
+
+pub length-end : (n : ℕ) → length (endField n) ≡ 7
+unfolding endField
+length-end n = rw (length-field, length-big)
+
+pub length-frame-field : (packet : List ℕ) → length (frameField packet) ≡ length packet + 5
+unfolding frameField
+length-frame-field packet = rw (length-field, length-frame) (omega arith)
+
+-- one field more
+pub length-rising : (packet : ℕ → List ℕ) (k : ℕ) → length (rising packet (suc k)) ≡ length (rising packet k) + (length (packet k) + 5)
+unfolding rising
+length-rising packet k = rw (length-append, length-frame-field)
+
+pub length-none : (packet : ℕ → List ℕ) → length (rising packet 0) ≡ 0
+unfolding rising
+length-none packet = refl
+
+pub length-blocks : (eeprom : List ℕ) (k : ℕ) → length (rising (memoryPacket eeprom) k) ≡ 8 * k + min (32 * k) (length eeprom)
+length-blocks eeprom zero = rw length-none (omega arith)
+length-blocks eeprom (suc k) = omega (arith, length-rising (memoryPacket eeprom) k, length-memory-packet eeprom k, length-blocks eeprom k)
+
+pub length-words : (settings : List ℕ) (k : ℕ) → length (rising (wordPacket settings) k) ≡ 13 * k
+length-words settings zero = rw length-none (omega arith)
+length-words settings (suc k) = omega (arith, length-rising (wordPacket settings) k, length-word-packet settings k, length-words settings k)
+
+-- the blocks have the whole EEPROM
+pub blocks-whole : (eeprom : List ℕ) → length (rising (memoryPacket eeprom) (blocks (length eeprom))) ≡ length eeprom + 8 * blocks (length eeprom)
+unfolding blocks
+blocks-whole eeprom = let e : ℕ = length eeprom in omega (arith, length-blocks eeprom ((e + 31) / 32))
+
+-- memories that are not too large
+pub right-sizes : (e s : ℕ) → wrongSizes e s ≡ false → (e ≤ 65536) × (s ≤ 65536)
+right-sizes e s h = let first = passed 65536 e true (ifLt 65536 s true false) false true≢false h in (first .0, passed 65536 s true false false true≢false (first .1) .0)
+
+module _ (m : Memory) where
+  -- "Room: 18 + E + 8 times ceil(E/32) + 13S."
+  pub length-save : length (saveOf m) ≡ room (length (m .eeprom)) (length (m .settings))
+  unfolding saveOf fieldsFor room
+  length-save =
+      rw (length-append, length-append, length-append, length-shape, blocks-whole (m .eeprom), length-words (m .settings) (length (m .settings)), length-end) (omega arith)
+
+  -- its four parts as they are put
+  pub save-parts : let e = length (m .eeprom) in
+      let s = length (m .settings) in
+      ((shapeField e s ++ rising (memoryPacket (m .eeprom)) (blocks e)) ++ rising (wordPacket (m .settings)) s) ++ endField (blocks e + s) ≡ saveOf m
+  unfolding saveOf fieldsFor
+  save-parts = rw (append-assoc, append-assoc)
+
+  -- what was written stands in front
+  pub in-front : (out : List ℕ) → take (length (saveOf m)) (over (saveOf m) out) ≡ saveOf m
+  unfolding over
+  in-front out = take-at (saveOf m) (drop (length (saveOf m)) out) (length (saveOf m)) refl
+
+-- ---- a field as it is put: its head, then its content
+pub field-parts : (tag n : ℕ) (content : List ℕ) → n ≡ length content → (tag ∷ bigBytes 2 n) ++ content ≡ field tag content
+unfolding field
+field-parts tag n content e = rw e
+
+module _ (tag n : ℕ) (l : List ℕ) {r : Outcome ℕ} {h o : List ℕ} (is : h ≡ tag ∷ bigBytes 2 n) (put : (r, o) ≡ into h l) where
+  pub head-put : 3 ≤ length l → o ≡ over (tag ∷ bigBytes 2 n) l
+  head-put room = put-over (tag ∷ bigBytes 2 n) l (put ∙ ap (λ (w : List ℕ). into w l) is) (omega (arith, length-big 2 n))
+
+  pub field-put : (content : List ℕ) {q : Outcome ℕ} {y : List ℕ} → (q, y) ≡ into content (take (length o - 3) (drop 3 o)) → n ≡ length content → 3 + n ≤ length l
+      → take 3 o ++ (y ++ drop (length o - 3) (drop 3 o)) ≡ over (field tag content) l
+  field-put content wrote e room =
+      put-rest (tag ∷ bigBytes 2 n) l (head-put (omega arith)) content 3 wrote (omega (arith, length-big 2 n)) (omega arith) ∙ ap (λ (w : List ℕ). over w l) (field-parts tag n content e)
+
+-- ---- fields of frames as they are put, one behind the other
+pub rising-none : (packet : ℕ → List ℕ) (l : List ℕ) → l ≡ over (rising packet 0) l
+unfolding rising over
+rising-none packet l = refl
+
+module _ (packet : ℕ → List ℕ) (k at : ℕ) (l : List ℕ) (is : at ≡ length (rising packet k)) (room : at + (length (packet k) + 5) ≤ length l) {o y : List ℕ} (wrote : o ≡ over (rising packet k) l) (put : y ≡ over (frameField (packet k)) (take (length o - at) (drop at o))) where
+  rising-put : take at o ++ (y ++ drop (length o - at) (drop at o)) ≡ over (rising packet (k + 1)) l
+  unfolding rising
+  rising-put =
+      over-rest (rising packet k) l wrote (frameField (packet k)) y at put is (omega (arith, length-frame-field (packet k))) ∙ ap (λ (n : ℕ). over (rising packet n) l) (sym (add-one k))
+
+  pub rising-next : (length (take at o ++ (y ++ drop (length o - at) (drop at o))) ≡ length l) × (take at o ++ (y ++ drop (length o - at) (drop at o)) ≡ over (rising packet (k + 1)) l)
+  rising-next = (ap length rising-put ∙ length-over _ l (rw (add-one, length-rising packet k) (omega arith)), rising-put)

@@ -1,0 +1,93 @@
+-- Laws of storing a save's frames one by one.
+use Prim.Native.Nat.{ℕ, _+_}
+use mathlib.Core.Path.{_≡_, refl, sym, ap, _∙_}
+use mathlib.Core.Bool.{Bool, true, false}
+use mathlib.Core.List.{List, [], _∷_, _++_}
+use lib.ListN.{length, drop}
+use Rattle.octets.specs.Outcome.{Outcome, accepted, refused, andThen}
+use Rattle.octets.specs.Refusals.{wrongSizes}
+use Rattle.octets.specs.Choice.{pick, ifEq}
+use Rattle.octets.proofs.Choosing.{was-same, refused-accepted}
+use Rattle.octets.proofs.Outcomes.{then-both, same-value, was-picked}
+use Rattle.device.specs.Memory.{Memory, Write, store, wrongSizes as badSizes}
+use Rattle.saves.specs.declared.judge.Shape.{Shape}
+use Rattle.saves.specs.Stream.{contentOf, behind, tagOf, streamOf, endOf, shapeOf}
+use Rattle.saves.specs.Means.{packetMeans, frameMeans, allMean}
+use Rattle.saves.specs.Judged.{sound, receiptOf, packetIn}
+use Rattle.saves.specs.Replay.{Save, fieldsMean, readFor, judgedOf, judgedFor, storing}
+use Rattle.saves.specs.Stored.{frameWrites, framesWrite}
+use Rattle.saves.proofs.Streams.{stream-frame, stream-end}
+use Rattle.saves.proofs.Judging.{summed, frame-is}
+use Rattle.saves.proofs.Rising.{store-append}
+
+module _ (e s : ℕ) (l : List ℕ) where
+  abbrev left : List Write
+  left = framesWrite e s (streamOf l .frames)
+
+  pub none-stored : (tagOf l ≡ 0x10 → ⊥) → (m : Memory) → store left m ≡ m
+  none-stored h m = rw (stream-end l h)
+
+  -- one frame, and those behind it
+  pub frame-stored : tagOf l ≡ 0x10 → (m : Memory) → store (framesWrite e s (streamOf (behind l) .frames)) (store (frameWrites e s (contentOf l)) m) ≡ store left m
+  frame-stored h m = rw (stream-frame l h) (sym (store-append (frameWrites e s (contentOf l)) (framesWrite e s (streamOf (behind l) .frames)) m))
+
+abbrev saveOf : Shape → List Write → Save
+saveOf shape writes = record { shape = shape; writes = writes }
+
+-- ---- a sound save's frames write what it means
+module _ (e s : ℕ) where
+  frame-writes : (f : List ℕ) {w : Write} → frameMeans e s f ≡ accepted w → frameWrites e s f ≡ w ∷ []
+  frame-writes f h =
+      let t = then-both (receiptOf f) (λ u. summed f (packetMeans e s (packetIn f))) (sym (frame-is f e s) ∙ h) in
+      let m = was-same _ _ _ _ (t .second) in rw (m .1)
+
+  all-write : (fs : List (List ℕ)) {ws : List Write} → allMean e s fs ≡ accepted ws → framesWrite e s fs ≡ ws
+  all-write [] h = same-value h
+  all-write (f ∷ fs) h =
+      let t = then-both (frameMeans e s f) (λ w. andThen (allMean e s fs) (λ ws. accepted (w ∷ ws))) h in
+      let u = then-both (allMean e s fs) (λ ws. accepted (t .value ∷ ws)) (t .second) in
+      rw (frame-writes f (t .first), all-write fs (u .first)) (same-value (u .second))
+
+module _ (l : List ℕ) where
+  abbrev frames : List (List ℕ)
+  frames = streamOf (drop 11 l) .frames
+
+  -- the save is for the sizes in its first field, and its frames write what it means
+  pub own-writes : {save : Save} → judgedOf l ≡ accepted save → (shapeOf l ≡ accepted (save .shape)) × (framesWrite (save .shape .eeprom) (save .shape .settings) frames ≡ save .writes)
+  unfolding judgedOf fieldsMean
+  own-writes {save} h =
+      let shaped = then-both (shapeOf l) (λ (sh : Shape). pick (badSizes (sh .eeprom) (sh .settings)) (refused wrongSizes) (readFor sh l)) h in
+      let sh = shaped .value in
+      let e = sh .eeprom in
+      let s = sh .settings in
+      let read = then-both (fieldsMean e s 0 (drop 11 l)) (λ (ws : List Write). accepted (saveOf sh ws)) (was-picked (badSizes e s) wrongSizes (readFor sh l) (shaped .second)) in
+      let all = then-both (allMean e s frames) (λ (ws : List Write). andThen (endOf (0 + length ws) (streamOf (drop 11 l) .tail)) (λ u. accepted ws)) (read .first) in
+      let end = then-both (endOf (0 + length (all .value)) (streamOf (drop 11 l) .tail)) (λ u. accepted (all .value)) (all .second) in
+      let is : saveOf sh (read .value) ≡ save = same-value (read .second) in
+      rw (← is) (shaped .first, all-write e s frames (all .first) ∙ same-value (end .second))
+
+  judged-writes : (e s : ℕ) {save : Save} → judgedFor e s l ≡ accepted save → framesWrite e s frames ≡ save .writes
+  unfolding judgedFor
+  judged-writes e s {save} h =
+      let shaped = then-both (shapeOf l) (λ (sh : Shape). ifEq (sh .eeprom) e (ifEq (sh .settings) s (judgedOf l) (refused wrongSizes)) (refused wrongSizes)) h in
+      let a = was-same _ _ _ _ (shaped .second) in
+      let b = was-same _ _ _ _ (a .1) in
+      let own = own-writes (b .1) in
+      let same-shape : shaped .value ≡ save .shape = same-value (sym (shaped .first) ∙ own .0) in
+      let e-same : save .shape .eeprom ≡ e = ap (λ (sh : Shape). sh .eeprom) (sym same-shape) ∙ a .0 in
+      let s-same : save .shape .settings ≡ s = ap (λ (sh : Shape). sh .settings) (sym same-shape) ∙ b .0 in
+      rw (e-same, s-same) at (own .1)
+
+pub replay-stores : (e s : ℕ) (l : List ℕ) (m : Memory) → accepted tt ≡ sound (judgedFor e s l) → (accepted tt, store (framesWrite e s (streamOf (drop 11 l) .frames)) m) ≡ storing m (judgedFor e s l)
+replay-stores e s l m h = go (judgedFor e s l) refl h
+  where
+    go : (o : Outcome Save) → judgedFor e s l ≡ o → accepted tt ≡ sound o → (accepted tt, store (framesWrite e s (streamOf (drop 11 l) .frames)) m) ≡ storing m o
+    go (accepted save) q g = rw (judged-writes l e s q)
+    go (refused k) q g = absurd (refused-accepted (sym g))
+
+pub replay-refuses : (e s : ℕ) (l : List ℕ) (m : Memory) {k : ℕ} → refused k ≡ sound (judgedFor e s l) → (refused k, m) ≡ storing m (judgedFor e s l)
+replay-refuses e s l m {k} h = go (judgedFor e s l) h
+  where
+    go : (o : Outcome Save) → refused k ≡ sound o → (refused k, m) ≡ storing m o
+    go (accepted save) g = absurd (refused-accepted g)
+    go (refused j) g = ap (λ (u : Outcome Unit). (u, m)) g

@@ -1,0 +1,43 @@
+-- Judging a save, and replaying it. "Replay checks everything, then stores, in order".
+use Prim.Native.Nat.{ℕ, _+_}
+use mathlib.Core.List.{List}
+use lib.ListN.{length, drop}
+use Rattle.octets.specs.Refusals.{tooLong, wrongSizes}
+use Rattle.octets.specs.Outcome.{Outcome, accepted, refused, andThen}
+use Rattle.octets.specs.Choice.{pick, ifLt, ifEq}
+use Rattle.device.specs.Memory.{Memory, Write, store, wronglySized, wrongSizes as badSizes}
+use Rattle.saves.specs.Stream.{Stream, streamOf, endOf, shapeOf}
+use Rattle.saves.specs.declared.judge.Shape.{Shape}
+use Rattle.saves.specs.Means.{allMean}
+
+-- the writes of the fields behind the first, n frames having gone before
+unfoldable pub fieldsMean : ℕ → ℕ → ℕ → List ℕ → Outcome (List Write)
+fieldsMean e s n l =
+    andThen (allMean e s (streamOf l .frames)) (λ (ws : List Write). andThen (endOf (n + length ws) (streamOf l .tail)) (λ u. accepted ws))
+
+pub record Save : Type 0 where
+  pub shape : Shape
+  pub writes : List Write
+
+-- the writes of a whole save, for memories of the sizes in its first field
+abbrev pub readFor : Shape → List ℕ → Outcome Save
+readFor shape l = andThen (fieldsMean (shape .eeprom) (shape .settings) 0 (drop 11 l)) (λ (ws : List Write). accepted (record { shape = shape; writes = ws }))
+
+-- "judges it against the save's own sizes (over 65,536: 14)"
+unfoldable pub judgedOf : List ℕ → Outcome Save
+judgedOf l = andThen (shapeOf l) (λ (shape : Shape). pick (badSizes (shape .eeprom) (shape .settings)) (refused wrongSizes) (readFor shape l))
+
+-- "sizes different 14"
+unfoldable pub judgedFor : ℕ → ℕ → List ℕ → Outcome Save
+judgedFor e s l =
+    andThen (shapeOf l) (λ (shape : Shape). ifEq (shape .eeprom) e (ifEq (shape .settings) s (judgedOf l) (refused wrongSizes)) (refused wrongSizes))
+
+abbrev pub storing : Memory → Outcome Save → Outcome Unit × Memory
+storing m (accepted save) = (accepted tt, store (save .writes) m)
+storing m (refused k) = (refused k, m)
+
+-- "Order: 14, 5, then the first fault going forward"
+unfoldable pub replayOf : Memory → List ℕ → Outcome Unit × Memory
+replayOf m l =
+    pick (wronglySized m) (refused wrongSizes, m)
+    (ifLt 16777216 (length l) (refused tooLong, m) (storing m (judgedFor (length (m .eeprom)) (length (m .settings)) l)))

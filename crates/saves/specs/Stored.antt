@@ -1,0 +1,18 @@
+-- What frames write one by one, as replay.rt stores them: a frame that means no write writes nothing.
+use Prim.Native.Nat.{ℕ}
+use mathlib.Core.List.{List, [], _∷_, _++_}
+use Rattle.octets.specs.Outcome.{Outcome, accepted, refused}
+use Rattle.device.specs.Memory.{Write}
+use Rattle.saves.specs.Means.{packetMeans}
+use Rattle.saves.specs.Judged.{packetIn}
+
+abbrev pub orNothing : Outcome Write → List Write
+orNothing (accepted w) = w ∷ []
+orNothing (refused k) = []
+
+abbrev pub frameWrites : ℕ → ℕ → List ℕ → List Write
+frameWrites e s frame = orNothing (packetMeans e s (packetIn frame))
+
+abbrev pub framesWrite : ℕ → ℕ → List (List ℕ) → List Write
+framesWrite e s [] = []
+framesWrite e s (frame ∷ frames) = frameWrites e s frame ++ framesWrite e s frames

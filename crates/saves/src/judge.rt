@@ -1,0 +1,115 @@
+// Judging a save, up to its first fault.
+ghost use mathlib.Core.Path.{_≡_};
+ghost use Prim.Native.Nat.{_+_};
+ghost use Rattle.octets.specs.Outcome.{onAccepted};
+ghost use Rattle.packet.specs.Receipt.{packetAt};
+ghost use Rattle.octets.specs.Place.{partOf};
+ghost use Rattle.responses.specs.Kind.{done};
+ghost use Rattle.saves.specs.Stream.{judged};
+ghost use Rattle.saves.specs.Means.{packetMeans};
+ghost use Rattle.saves.specs.Judged.{sound, receiptOf, sizedOf};
+ghost use Rattle.saves.specs.Replay.{judgedOf, fieldsMean};
+use crate::means::Means;
+use crate::means::meaning_of;
+use crate::stream;
+use octets::number;
+use octets::refusal;
+use responses::kind::Done;
+
+// The sizes of the memories that a save is for.
+pub struct Shape {
+    pub eeprom: usize,
+    pub settings: usize,
+}
+
+// A sound save's sizes, or the number of the first fault.
+pub enum Judged {
+    Sound(Shape),
+    Refused(u8),
+}
+
+// Judges a save against its own sizes.
+pub fn judge(save: &[u8]) -> Judged
+    ensures { λ r. ⌜ judged r ≡ onAccepted (λ s. s .shape) (judgedOf (now (save .entry))) ⌝ }
+{
+    match stream::shape_of(save) {
+        Judged::Sound(shape) => judge_sized(shape, save),
+        Judged::Refused(k) => Judged::Refused(k),
+    }
+}
+
+fn judge_sized(shape: Shape, save: &[u8]) -> Judged
+    ensures { λ r. ⌜ judged r ≡ onAccepted (λ s. s .shape) (sizedOf shape (now (save .entry))) ⌝ }
+{
+    if device::wrong_sizes(shape.eeprom, shape.settings) {
+        return Judged::Refused(refusal::WRONG_SIZES);
+    }
+    let fields = octets::part(save, octets::rest_of(save, stream::FIRST));
+    match scan(fields, shape.eeprom, shape.settings) {
+        Done::Done => Judged::Sound(shape),
+        Done::Refused(k) => Judged::Refused(k),
+    }
+}
+
+// Goes over the fields and, within, over each frame's bytes, and is left at the first fault.
+fn scan(fields: &[u8], e: usize, s: usize) -> Done
+    ensures { λ r. ⌜ done r ≡ sound (fieldsMean e s 0 (now (fields .entry))) ⌝ }
+{
+    let mut rest = fields;
+    let mut frames = 0;
+    'fields: loop {
+        if stream::tag_of(rest) != stream::FRAME {
+            break 'fields stream::end_of(rest, frames);
+        }
+        let frame = stream::content_of(rest);
+        if let Done::Refused(k) = receipt(frame) {
+            break 'fields Done::Refused(k);
+        }
+        let len = number::byte(frame, 0) as usize;
+        let mut sum: u8 = 0;
+        let mut i = 0;
+        'bytes: loop {
+            if i == len {
+                if sum != number::byte(frame, i) {
+                    break 'fields Done::Refused(refusal::CHECKSUM);
+                }
+                break 'bytes;
+            }
+            sum = std::num::wrapping_add_u8(sum, number::byte(frame, i));
+            i += 1;
+        }
+        if let Done::Refused(k) = packet_fault(stream::packet_of(frame), e, s) {
+            break 'fields Done::Refused(k);
+        }
+        frames += 1;
+        let end = stream::field_end(rest);
+        rest = &rest[end..];
+    }
+}
+
+// Strict receipt of a frame, but for its checksum.
+fn receipt(frame: &[u8]) -> Done
+    ensures { λ r. ⌜ done r ≡ receiptOf (now (frame .entry)) ⌝ }
+{
+    let len = number::byte(frame, 0) as usize;
+    if len == 0 {
+        return Done::Refused(refusal::EMPTY);
+    }
+    if frame.len() < len + 1 {
+        return Done::Refused(refusal::SHORT);
+    }
+    if len + 1 < frame.len() {
+        return Done::Refused(refusal::TRAILING);
+    }
+    Done::Done
+}
+
+fn packet_fault(packet: &[u8], e: usize, s: usize) -> Done
+    ensures { λ r. ⌜ done r ≡ sound (packetMeans e s (now (packet .entry))) ⌝ }
+{
+    match meaning_of(packet, e, s) {
+        Means::Bytes { .. } => Done::Done,
+        Means::Word { .. } => Done::Done,
+        Means::Refused(k) => Done::Refused(k),
+    }
+}
