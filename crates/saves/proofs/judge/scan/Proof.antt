@@ -31,6 +31,25 @@ Inv-fields fields e s rest₀ frames₀ rest frames = (frames + length rest ≤ 
 abbrev μ-fields : tie.MeasureT-fields
 μ-fields fields e s rest₀ frames₀ rest frames = length rest
 
+-- the frame at the front of what is left
+module _ (d : tie.After-content-of Inv-bytes μ-bytes Inv-fields μ-fields) where
+  abbrev left : List ℕ
+  left = d .before .before .before .fields .rest .now
+
+  abbrev frame : List ℕ
+  frame = now (d .content-of .result)
+
+  is-frame : tagOf left ≡ 0x10
+  is-frame = sym (d .before .before .tag-of .ensures) ∙ d .before .if1 .left
+
+-- its receipt went well
+received : (d : tie.After-enum-told Inv-bytes μ-bytes Inv-fields μ-fields) → accepted tt ≡ receiptOf (frame (d .before .before .before))
+received d = rw (d .enum-told .given .1) at (d .before .before .receipt .ensures)
+
+-- and its checksum is the sum
+sums : (d : tie.Else3 Inv-bytes μ-bytes Inv-fields μ-fields) → let f = frame (d .before .before .before .before .before .before .before .before) in checksumOf (take (lengthByte f) f) ≡ at f (lengthByte f)
+sums d = rw (← d .before .before .before .before .byte .ensures, ← d .before .before .if2 .taken) (sym (d .before .before .before .bytes .inv .1) ∙ d .if3 .left ∙ d .before .byte2 .ensures)
+
 fields-holds : tie.Need-fields-holds Inv-bytes μ-bytes Inv-fields μ-fields
 fields-holds c = (omega arith, refl)
 
@@ -45,37 +64,48 @@ bytes-less : tie.Need-bytes-less Inv-bytes μ-bytes Inv-fields μ-fields
 bytes-less c = omega arith
 
 bytes-again : tie.Need-bytes-again Inv-bytes μ-bytes Inv-fields μ-fields
-bytes-again c = let f = now (c .before .before .before .before .before .before .before .before .content-of .result) in let got : accepted tt ≡ receiptOf f = rw (c .before .before .before .before .before .enum-told .given .1) at (c .before .before .before .before .before .before .before .receipt .ensures) in (omega arith, omega (arith, total-turn f (c .before .before .before .bytes .i) (omega (arith, as-long f got, c .before .before .before .before .byte .ensures)), c .before .byte3 .ensures))
+bytes-again c =
+    let f = frame (c .before .before .before .before .before .before .before .before) in
+    (omega arith, omega (arith, total-turn f (c .before .before .before .bytes .i) (omega (arith, as-long f (received (c .before .before .before .before .before)), c .before .before .before .before .byte .ensures)), c .before .byte3 .ensures))
 
 add-frames : tie.Need-add-frames Inv-bytes μ-bytes Inv-fields μ-fields
 add-frames c = omega arith
 
 sub-rest : tie.Need-sub-rest Inv-bytes μ-bytes Inv-fields μ-fields
-sub-rest c = let l = c .before .before .before .before .before .before .before .before .before .before .before .before .before .before .before .before .fields .rest .now in let tag : tagOf l ≡ 0x10 = sym (c .before .before .before .before .before .before .before .before .before .before .before .before .before .before .before .tag-of .ensures) ∙ c .before .before .before .before .before .before .before .before .before .before .before .before .before .before .if1 .left in let w = tag-whole l tag in omega (arith, c .field-end .ensures, w)
+sub-rest c = let d = c .before .before .before .before .before .before .before .before .before .before .before .before .before in omega (arith, c .field-end .ensures, tag-whole (left d) (is-frame d))
 
 part-rest-start : tie.Need-part-rest-start Inv-bytes μ-bytes Inv-fields μ-fields
-part-rest-start c = let l = c .before .before .before .before .before .before .before .before .before .before .before .before .before .before .before .before .fields .rest .now in let tag : tagOf l ≡ 0x10 = sym (c .before .before .before .before .before .before .before .before .before .before .before .before .before .before .before .tag-of .ensures) ∙ c .before .before .before .before .before .before .before .before .before .before .before .before .before .before .if1 .left in let w = tag-whole l tag in omega (arith, c .field-end .ensures, w)
+part-rest-start c = let d = c .before .before .before .before .before .before .before .before .before .before .before .before .before in omega (arith, c .field-end .ensures, tag-whole (left d) (is-frame d))
 
 part-rest-end : tie.Need-part-rest-end Inv-bytes μ-bytes Inv-fields μ-fields
-part-rest-end c = let l = c .before .before .before .before .before .before .before .before .before .before .before .before .before .before .before .before .fields .rest .now in let tag : tagOf l ≡ 0x10 = sym (c .before .before .before .before .before .before .before .before .before .before .before .before .before .before .before .tag-of .ensures) ∙ c .before .before .before .before .before .before .before .before .before .before .before .before .before .before .if1 .left in let w = tag-whole l tag in omega (arith, c .field-end .ensures, w)
+part-rest-end c = let d = c .before .before .before .before .before .before .before .before .before .before .before .before .before in omega (arith, c .field-end .ensures, tag-whole (left d) (is-frame d))
 
 fields-less : tie.Need-fields-less Inv-bytes μ-bytes Inv-fields μ-fields
-fields-less c = let l = c .before .before .before .before .before .before .before .before .before .before .before .before .before .before .before .before .before .fields .rest .now in let tag : tagOf l ≡ 0x10 = sym (c .before .before .before .before .before .before .before .before .before .before .before .before .before .before .before .before .tag-of .ensures) ∙ c .before .before .before .before .before .before .before .before .before .before .before .before .before .before .before .if1 .left in let w = tag-whole l tag in rw (cut-behind l (c .before .field-end .result) (c .before .field-end .ensures)) (behind-shorter l tag)
+fields-less c = let d = c .before .before .before .before .before .before .before .before .before .before .before .before .before .before in rw (cut-behind (left d) (c .before .field-end .result) (c .before .field-end .ensures)) (behind-shorter (left d) (is-frame d))
 
 fields-again : tie.Need-fields-again Inv-bytes μ-bytes Inv-fields μ-fields
-fields-again c = let l = c .before .before .before .before .before .before .before .before .before .before .before .before .before .before .before .before .before .fields .rest .now in let tag : tagOf l ≡ 0x10 = sym (c .before .before .before .before .before .before .before .before .before .before .before .before .before .before .before .before .tag-of .ensures) ∙ c .before .before .before .before .before .before .before .before .before .before .before .before .before .before .before .if1 .left in let f = now (c .before .before .before .before .before .before .before .before .before .before .before .before .before .before .content-of .result) in let got : accepted tt ≡ receiptOf f = rw (c .before .before .before .before .before .before .before .before .before .before .before .enum-told .given .1) at (c .before .before .before .before .before .before .before .before .before .before .before .before .before .receipt .ensures) in let sums : checksumOf (take (lengthByte f) f) ≡ at f (lengthByte f) = rw (← c .before .before .before .before .before .before .before .before .before .before .byte .ensures, ← c .before .before .before .before .before .before .before .before .if2 .taken) (sym (c .before .before .before .before .before .before .before .before .before .bytes .inv .1) ∙ c .before .before .before .before .before .before .if3 .left ∙ c .before .before .before .before .before .before .before .byte2 .ensures) in let fine = rw (c .before .before .enum-told2 .given .1) at (c .before .before .before .before .packet-fault .ensures) in let shorter = behind-shorter l tag in rw (cut-behind l (c .before .field-end .result) (c .before .field-end .ensures)) (omega (arith, shorter), goes-on (c .before .before .before .before .before .before .before .before .before .before .before .before .before .before .before .before .before .before .before .args .e) (c .before .before .before .before .before .before .before .before .before .before .before .before .before .before .before .before .before .before .before .args .s) (c .before .before .before .before .before .before .before .before .before .before .before .before .before .before .before .before .before .fields .frames) l f tag (c .before .before .before .before .before .before .before .before .before .before .before .before .before .before .content-of .ensures) got sums _ (c .before .before .before .before .before .packet-of .ensures) fine ∙ c .before .before .before .before .before .before .before .before .before .before .before .before .before .before .before .before .before .fields .inv .1)
+fields-again c =
+    let d = c .before .before .before .before .before .before .before .before .before .before .before .before .before .before in
+    let shorter = behind-shorter (left d) (is-frame d) in
+    let sound-packet = rw (c .before .before .enum-told2 .given .1) at (c .before .before .before .before .packet-fault .ensures) in
+    rw (cut-behind (left d) (c .before .field-end .result) (c .before .field-end .ensures))
+    (omega (arith, shorter), goes-on (c .before .before .before .before .before .before .before .before .before .before .before .before .before .before .before .before .before .before .before .args .e) (c .before .before .before .before .before .before .before .before .before .before .before .before .before .before .before .before .before .before .before .args .s) (c .before .before .before .before .before .before .before .before .before .before .before .before .before .before .before .before .before .fields .frames) (left d) (frame d) (is-frame d) (d .content-of .ensures) (received (c .before .before .before .before .before .before .before .before .before .before .before)) (sums (c .before .before .before .before .before .before)) _ (c .before .before .before .before .before .packet-of .ensures) sound-packet ∙ c .before .before .before .before .before .before .before .before .before .before .before .before .before .before .before .before .before .fields .inv .1)
 
 returns : tie.Need-returns Inv-bytes μ-bytes Inv-fields μ-fields
-returns c = c .end-of .ensures ∙ none-left (c .before .before .before .before .before .args .e) (c .before .before .before .before .before .args .s) (c .before .before .before .fields .frames) (c .before .before .before .fields .rest .now) (λ h. c .before .if1 .taken (c .before .before .tag-of .ensures ∙ h)) ∙ c .before .before .before .fields .inv .1
+returns c = let l = c .before .before .before .fields in c .end-of .ensures ∙ none-left (c .before .before .before .before .before .args .e) (c .before .before .before .before .before .args .s) (l .frames) (l .rest .now) (λ h. c .before .if1 .taken (c .before .before .tag-of .ensures ∙ h)) ∙ l .inv .1
 
 returns-2 : tie.Need-returns-2 Inv-bytes μ-bytes Inv-fields μ-fields
-returns-2 c = let l = c .before .before .before .before .before .before .before .fields .rest .now in let tag : tagOf l ≡ 0x10 = sym (c .before .before .before .before .before .before .tag-of .ensures) ∙ c .before .before .before .before .before .if1 .left in let f = now (c .before .before .before .before .content-of .result) in not-received (c .before .before .before .before .before .before .before .before .before .args .e) (c .before .before .before .before .before .before .before .before .before .args .s) (c .before .before .before .before .before .before .before .fields .frames) l f tag (c .before .before .before .before .content-of .ensures) (rw (c .before .k .given .1) at (c .before .before .before .receipt .ensures)) ∙ c .before .before .before .before .before .before .before .fields .inv .1
+returns-2 c = let d = c .before .before .before .before in not-received (c .before .before .before .before .before .before .before .before .before .args .e) (c .before .before .before .before .before .before .before .before .before .args .s) (c .before .before .before .before .before .before .before .fields .frames) (left d) (frame d) (is-frame d) (d .content-of .ensures) (rw (c .before .k .given .1) at (c .before .before .before .receipt .ensures)) ∙ c .before .before .before .before .before .before .before .fields .inv .1
 
 returns-3 : tie.Need-returns-3 Inv-bytes μ-bytes Inv-fields μ-fields
-returns-3 c = let l = c .before .before .before .before .before .before .before .before .before .before .before .fields .rest .now in let tag : tagOf l ≡ 0x10 = sym (c .before .before .before .before .before .before .before .before .before .before .tag-of .ensures) ∙ c .before .before .before .before .before .before .before .before .before .if1 .left in let f = now (c .before .before .before .before .before .before .before .before .content-of .result) in let got : accepted tt ≡ receiptOf f = rw (c .before .before .before .before .before .enum-told .given .1) at (c .before .before .before .before .before .before .before .receipt .ensures) in not-summed (c .before .before .before .before .before .before .before .before .before .before .before .before .before .args .e) (c .before .before .before .before .before .before .before .before .before .before .before .before .before .args .s) (c .before .before .before .before .before .before .before .before .before .before .before .fields .frames) l f tag (c .before .before .before .before .before .before .before .before .content-of .ensures) got (λ h. c .if3 .taken (c .before .before .before .bytes .inv .1 ∙ rw (c .before .before .if2 .taken, c .before .before .before .before .byte .ensures) h ∙ sym (c .before .byte2 .ensures))) ∙ c .before .before .before .before .before .before .before .before .before .before .before .fields .inv .1
+returns-3 c =
+    let d = c .before .before .before .before .before .before .before .before in
+    not-summed (c .before .before .before .before .before .before .before .before .before .before .before .before .before .args .e) (c .before .before .before .before .before .before .before .before .before .before .before .before .before .args .s) (c .before .before .before .before .before .before .before .before .before .before .before .fields .frames) (left d) (frame d) (is-frame d) (d .content-of .ensures) (received (c .before .before .before .before .before)) (λ h. c .if3 .taken (c .before .before .before .bytes .inv .1 ∙ rw (c .before .before .if2 .taken, c .before .before .before .before .byte .ensures) h ∙ sym (c .before .byte2 .ensures))) ∙ c .before .before .before .before .before .before .before .before .before .before .before .fields .inv .1
 
 returns-4 : tie.Need-returns-4 Inv-bytes μ-bytes Inv-fields μ-fields
-returns-4 c = let l = c .before .before .before .before .before .before .before .before .before .before .before .before .before .before .before .before .fields .rest .now in let tag : tagOf l ≡ 0x10 = sym (c .before .before .before .before .before .before .before .before .before .before .before .before .before .before .before .tag-of .ensures) ∙ c .before .before .before .before .before .before .before .before .before .before .before .before .before .before .if1 .left in let f = now (c .before .before .before .before .before .before .before .before .before .before .before .before .before .content-of .result) in let got : accepted tt ≡ receiptOf f = rw (c .before .before .before .before .before .before .before .before .before .before .enum-told .given .1) at (c .before .before .before .before .before .before .before .before .before .before .before .before .receipt .ensures) in let sums : checksumOf (take (lengthByte f) f) ≡ at f (lengthByte f) = rw (← c .before .before .before .before .before .before .before .before .before .byte .ensures, ← c .before .before .before .before .before .before .before .if2 .taken) (sym (c .before .before .before .before .before .before .before .before .bytes .inv .1) ∙ c .before .before .before .before .before .if3 .left ∙ c .before .before .before .before .before .before .byte2 .ensures) in not-meant (c .before .before .before .before .before .before .before .before .before .before .before .before .before .before .before .before .before .before .args .e) (c .before .before .before .before .before .before .before .before .before .before .before .before .before .before .before .before .before .before .args .s) (c .before .before .before .before .before .before .before .before .before .before .before .before .before .before .before .before .fields .frames) l f tag (c .before .before .before .before .before .before .before .before .before .before .before .before .before .content-of .ensures) got sums _ (c .before .before .before .before .packet-of .ensures) (rw (c .before .k2 .given .1) at (c .before .before .before .packet-fault .ensures)) ∙ c .before .before .before .before .before .before .before .before .before .before .before .before .before .before .before .before .fields .inv .1
+returns-4 c =
+    let d = c .before .before .before .before .before .before .before .before .before .before .before .before .before in
+    not-meant (c .before .before .before .before .before .before .before .before .before .before .before .before .before .before .before .before .before .before .args .e) (c .before .before .before .before .before .before .before .before .before .before .before .before .before .before .before .before .before .before .args .s) (c .before .before .before .before .before .before .before .before .before .before .before .before .before .before .before .before .fields .frames) (left d) (frame d) (is-frame d) (d .content-of .ensures) (received (c .before .before .before .before .before .before .before .before .before .before)) (sums (c .before .before .before .before .before)) _ (c .before .before .before .before .packet-of .ensures) (rw (c .before .k2 .given .1) at (c .before .before .before .packet-fault .ensures)) ∙ c .before .before .before .before .before .before .before .before .before .before .before .before .before .before .before .before .fields .inv .1
 
 pub scan-spec : {M : Type 1} → statement M
 scan-spec =
