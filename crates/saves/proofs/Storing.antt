@@ -27,9 +27,11 @@ module _ (e s : ℕ) (l : List ℕ) where
   pub none-stored : (tagOf l ≡ 0x10 → ⊥) → (m : Memory) → store left m ≡ m
   none-stored h m = rw (stream-end l h)
 
-  -- one frame, and those behind it
-  pub frame-stored : tagOf l ≡ 0x10 → (m : Memory) → store (framesWrite e s (streamOf (behind l) .frames)) (store (frameWrites e s (contentOf l)) m) ≡ store left m
-  frame-stored h m = rw (stream-frame l h) (sym (store-append (frameWrites e s (contentOf l)) (framesWrite e s (streamOf (behind l) .frames)) m))
+  -- the frame f at the front, and those behind it
+  pub frame-stored : tagOf l ≡ 0x10 → (f : List ℕ) → f ≡ contentOf l → (m m′ : Memory) → m′ ≡ store (frameWrites e s f) m
+      → store (framesWrite e s (streamOf (behind l) .frames)) m′ ≡ store left m
+  frame-stored h f is m m′ stored =
+      rw (stored, is, stream-frame l h) (sym (store-append (frameWrites e s (contentOf l)) (framesWrite e s (streamOf (behind l) .frames)) m))
 
 abbrev saveOf : Shape → List Write → Save
 saveOf shape writes = record { shape = shape; writes = writes }

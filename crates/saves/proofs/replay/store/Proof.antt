@@ -13,29 +13,54 @@ use Rattle.saves.proofs.Storing.{none-stored, frame-stored}
 use Rattle.saves.proofs.replay.store.Statement.{statement}
 use Rattle.saves.proofs.replay.store.Tie as tie
 
+-- what the frames of some fields leave of the memories
+abbrev stores : List ℕ → List ℕ → List ℕ → List ℕ → List ℕ → Memory
+stores e s fields eeprom settings = storeAll (framesWrite (length e) (length s) (streamOf fields .frames)) (memory eeprom settings)
+
 abbrev Inv-loop : tie.InvT-loop
-Inv-loop fields eeprom₀ settings₀ rest₀ eeprom settings rest = (length eeprom ≡ length eeprom₀) × (length settings ≡ length settings₀) × (storeAll (framesWrite (length eeprom₀) (length settings₀) (streamOf rest .frames)) (memory eeprom settings) ≡ storeAll (framesWrite (length eeprom₀) (length settings₀) (streamOf fields .frames)) (memory eeprom₀ settings₀))
+Inv-loop fields eeprom₀ settings₀ rest₀ eeprom settings rest =
+    (length eeprom ≡ length eeprom₀) × (length settings ≡ length settings₀)
+    × (stores eeprom₀ settings₀ rest eeprom settings ≡ stores eeprom₀ settings₀ fields eeprom₀ settings₀)
 
 abbrev μ-loop : tie.MeasureT-loop
 μ-loop fields eeprom₀ settings₀ rest₀ eeprom settings rest = length rest
+
+-- the frame at the front of what is left
+module _ (d : tie.After-content-of Inv-loop μ-loop) where
+  abbrev left : List ℕ
+  left = d .before .before .before .loop .rest .now
+
+  is-frame : tagOf left ≡ 0x10
+  is-frame = sym (d .before .before .tag-of .ensures) ∙ d .before .if1 .taken
 
 loop-holds : tie.Need-loop-holds Inv-loop μ-loop
 loop-holds c = (refl, refl, refl)
 
 sub-rest : tie.Need-sub-rest Inv-loop μ-loop
-sub-rest c = let l = c .before .before .before .before .before .before .before .before .before .before .before .loop .rest .now in let tag : tagOf l ≡ 0x10 = sym (c .before .before .before .before .before .before .before .before .before .before .tag-of .ensures) ∙ c .before .before .before .before .before .before .before .before .before .if1 .taken in let w = tag-whole l tag in omega (arith, c .field-end .ensures, w)
+sub-rest c = let d = c .before .before .before .before .before .before .before .before in omega (arith, c .field-end .ensures, tag-whole (left d) (is-frame d))
 
 part-rest-start : tie.Need-part-rest-start Inv-loop μ-loop
-part-rest-start c = let l = c .before .before .before .before .before .before .before .before .before .before .before .loop .rest .now in let tag : tagOf l ≡ 0x10 = sym (c .before .before .before .before .before .before .before .before .before .before .tag-of .ensures) ∙ c .before .before .before .before .before .before .before .before .before .if1 .taken in let w = tag-whole l tag in omega (arith, c .field-end .ensures, w)
+part-rest-start c = let d = c .before .before .before .before .before .before .before .before in omega (arith, c .field-end .ensures, tag-whole (left d) (is-frame d))
 
 part-rest-end : tie.Need-part-rest-end Inv-loop μ-loop
-part-rest-end c = let l = c .before .before .before .before .before .before .before .before .before .before .before .loop .rest .now in let tag : tagOf l ≡ 0x10 = sym (c .before .before .before .before .before .before .before .before .before .before .tag-of .ensures) ∙ c .before .before .before .before .before .before .before .before .before .if1 .taken in let w = tag-whole l tag in omega (arith, c .field-end .ensures, w)
+part-rest-end c = let d = c .before .before .before .before .before .before .before .before in omega (arith, c .field-end .ensures, tag-whole (left d) (is-frame d))
 
 loop-less : tie.Need-loop-less Inv-loop μ-loop
-loop-less c = let l = c .before .before .before .before .before .before .before .before .before .before .before .before .loop .rest .now in let tag : tagOf l ≡ 0x10 = sym (c .before .before .before .before .before .before .before .before .before .before .before .tag-of .ensures) ∙ c .before .before .before .before .before .before .before .before .before .before .if1 .taken in let w = tag-whole l tag in rw (cut-behind l (c .before .field-end .result) (c .before .field-end .ensures)) (behind-shorter l tag)
+loop-less c = let d = c .before .before .before .before .before .before .before .before .before in rw (cut-behind (left d) (c .before .field-end .result) (c .before .field-end .ensures)) (behind-shorter (left d) (is-frame d))
 
 loop-again : tie.Need-loop-again Inv-loop μ-loop
-loop-again c = let l = c .before .before .before .before .before .before .before .before .before .before .before .before .loop .rest .now in let tag : tagOf l ≡ 0x10 = sym (c .before .before .before .before .before .before .before .before .before .before .before .tag-of .ensures) ∙ c .before .before .before .before .before .before .before .before .before .before .if1 .taken in let w = tag-whole l tag in let inv = c .before .before .before .before .before .before .before .before .before .before .before .before .loop .inv in (c .before .before .before .before .before .before .store-frame .kept .1 .0 ∙ inv .0, c .before .before .before .before .before .before .store-frame .kept .1 .1 .0 ∙ inv .1, rw (cut-behind l (c .before .field-end .result) (c .before .field-end .ensures), c .before .before .before .before .before .before .store-frame .ensures, c .before .before .before .before .before .before .before .before .before .content-of .ensures, inv .0, inv .1) (frame-stored (length (c .before .before .before .before .before .before .before .before .before .before .before .before .before .before .before .before .args .eeprom .now)) (length (c .before .before .before .before .before .before .before .before .before .before .before .before .before .before .before .before .args .settings .now)) l tag (memory (c .before .before .before .before .before .before .before .before .before .before .before .before .loop .eeprom) (c .before .before .before .before .before .before .before .before .before .before .before .before .loop .settings))) ∙ inv .2)
+loop-again c =
+    let d = c .before .before .before .before .before .before .before .before .before in
+    let call = c .before .before .before .before .before .before .store-frame in
+    let l = c .before .before .before .before .before .before .before .before .before .before .before .before .loop in
+    let a = c .before .before .before .before .before .before .before .before .before .before .before .before .before .before .before .before .args in (
+      call .kept .1 .0 ∙ l .inv .0,
+      call .kept .1 .1 .0 ∙ l .inv .1,
+      rw (cut-behind (left d) (c .before .field-end .result) (c .before .field-end .ensures))
+          (frame-stored (length (a .eeprom .now)) (length (a .settings .now)) (left d) (is-frame d) _ (d .content-of .ensures) (memory (l .eeprom) (l .settings)) _
+          (rw (l .inv .0, l .inv .1) at (call .ensures))
+          ∙ l .inv .2),
+    )
 
 same-length : tie.Need-same-length Inv-loop μ-loop
 same-length c = c .before .before .loop .inv .0
