@@ -13,10 +13,30 @@ returns : tie.Need-returns
 returns c = rw (← c .before .wrong-sizes .ensures, c .if1 .taken)
 
 returns-2 : tie.Need-returns-2
-returns-2 c = let fields = c .before .before .before .part .ensures ∙ ap (partOf (c .before .before .before .before .before .before .before .before .args .save .now)) (c .before .before .before .before .rest-of .ensures) ∙ part-rest (c .before .before .before .before .before .before .before .before .args .save .now) 11 in rw (← c .before .before .before .before .before .before .wrong-sizes .ensures, c .before .before .before .before .before .if1 .left, only-shape (c .before .before .before .before .before .before .before .before .args .shape) (fieldsMean (c .before .before .before .before .before .before .before .before .args .shape .eeprom) (c .before .before .before .before .before .before .before .before .args .shape .settings) 0 (drop 11 (c .before .before .before .before .before .before .before .before .args .save .now))), ← fields, ← c .before .before .scan .ensures, c .enum-told .given .1)
+returns-2 c =
+    let told = c in
+    let scanned = told .before .before in
+    let lent = scanned .before in
+    let sized = lent .before .before in
+    let first = sized .before .before .before in
+    let shape = first .args .shape in
+    let l = first .args .save .now in
+    let fields = lent .part .ensures ∙ ap (partOf l) (lent .before .rest-of .ensures) ∙ part-rest l 11 in
+    let means = only-shape shape (fieldsMean (shape .eeprom) (shape .settings) 0 (drop 11 l)) in
+    rw (← sized .before .wrong-sizes .ensures, sized .if1 .left, means, ← fields, ← scanned .scan .ensures, told .enum-told .given .1)
 
 returns-3 : tie.Need-returns-3
-returns-3 c = let fields = c .before .before .before .before .part .ensures ∙ ap (partOf (c .before .before .before .before .before .before .before .before .before .args .save .now)) (c .before .before .before .before .before .rest-of .ensures) ∙ part-rest (c .before .before .before .before .before .before .before .before .before .args .save .now) 11 in rw (← c .before .before .before .before .before .before .before .wrong-sizes .ensures, c .before .before .before .before .before .before .if1 .left, only-shape (c .before .before .before .before .before .before .before .before .before .args .shape) (fieldsMean (c .before .before .before .before .before .before .before .before .before .args .shape .eeprom) (c .before .before .before .before .before .before .before .before .before .args .shape .settings) 0 (drop 11 (c .before .before .before .before .before .before .before .before .before .args .save .now))), ← fields, ← c .before .before .before .scan .ensures, c .before .k .given .1)
+returns-3 c =
+    let told = c .before in
+    let scanned = told .before .before in
+    let lent = scanned .before in
+    let sized = lent .before .before in
+    let first = sized .before .before .before in
+    let shape = first .args .shape in
+    let l = first .args .save .now in
+    let fields = lent .part .ensures ∙ ap (partOf l) (lent .before .rest-of .ensures) ∙ part-rest l 11 in
+    let means = only-shape shape (fieldsMean (shape .eeprom) (shape .settings) 0 (drop 11 l)) in
+    rw (← sized .before .wrong-sizes .ensures, sized .if1 .left, means, ← fields, ← scanned .scan .ensures, told .k .given .1)
 
 pub judge-sized-spec : {M : Type 1} → statement M
 judge-sized-spec =

@@ -65,8 +65,12 @@ bytes-less c = omega arith
 
 bytes-again : tie.Need-bytes-again Inv-bytes μ-bytes Inv-fields μ-fields
 bytes-again c =
-    let f = frame (c .before .before .before .before .before .before .before .before) in
-    (omega arith, omega (arith, total-turn f (c .before .before .before .bytes .i) (omega (arith, as-long f (received (c .before .before .before .before .before)), c .before .before .before .before .byte .ensures)), c .before .byte3 .ensures))
+    let add = c .before in
+    let turn = add .before .before in
+    let got = turn .before .before in
+    let d = got .before .before .before in
+    let f = frame d in
+    (omega arith, omega (arith, total-turn f (turn .bytes .i) (omega (arith, as-long f (received got), turn .before .byte .ensures)), add .byte3 .ensures))
 
 add-frames : tie.Need-add-frames Inv-bytes μ-bytes Inv-fields μ-fields
 add-frames c = omega arith
@@ -85,27 +89,52 @@ fields-less c = let d = c .before .before .before .before .before .before .befor
 
 fields-again : tie.Need-fields-again Inv-bytes μ-bytes Inv-fields μ-fields
 fields-again c =
-    let d = c .before .before .before .before .before .before .before .before .before .before .before .before .before .before in
+    let told = c .before .before in
+    let fault = told .before .before in
+    let good = fault .before .before in
+    let got = good .before .before .before .before .before in
+    let d = got .before .before .before in
+    let l = d .before .before .before in
+    let first = l .before .before in
     let shorter = behind-shorter (left d) (is-frame d) in
-    let sound-packet = rw (c .before .before .enum-told2 .given .1) at (c .before .before .before .before .packet-fault .ensures) in
+    let fine = rw (told .enum-told2 .given .1) at (fault .packet-fault .ensures) in
     rw (cut-behind (left d) (c .before .field-end .result) (c .before .field-end .ensures))
-    (omega (arith, shorter), goes-on (c .before .before .before .before .before .before .before .before .before .before .before .before .before .before .before .before .before .before .before .args .e) (c .before .before .before .before .before .before .before .before .before .before .before .before .before .before .before .before .before .before .before .args .s) (c .before .before .before .before .before .before .before .before .before .before .before .before .before .before .before .before .before .fields .frames) (left d) (frame d) (is-frame d) (d .content-of .ensures) (received (c .before .before .before .before .before .before .before .before .before .before .before)) (sums (c .before .before .before .before .before .before)) _ (c .before .before .before .before .before .packet-of .ensures) sound-packet ∙ c .before .before .before .before .before .before .before .before .before .before .before .before .before .before .before .before .before .fields .inv .1)
+    (omega (arith, shorter), goes-on (first .args .e) (first .args .s) (l .fields .frames) (left d) (frame d) (is-frame d) (d .content-of .ensures) (received got) (sums good) _ (fault .before .packet-of .ensures) fine ∙ l .fields .inv .1)
 
 returns : tie.Need-returns Inv-bytes μ-bytes Inv-fields μ-fields
 returns c = let l = c .before .before .before .fields in c .end-of .ensures ∙ none-left (c .before .before .before .before .before .args .e) (c .before .before .before .before .before .args .s) (l .frames) (l .rest .now) (λ h. c .before .if1 .taken (c .before .before .tag-of .ensures ∙ h)) ∙ l .inv .1
 
 returns-2 : tie.Need-returns-2 Inv-bytes μ-bytes Inv-fields μ-fields
-returns-2 c = let d = c .before .before .before .before in not-received (c .before .before .before .before .before .before .before .before .before .args .e) (c .before .before .before .before .before .before .before .before .before .args .s) (c .before .before .before .before .before .before .before .fields .frames) (left d) (frame d) (is-frame d) (d .content-of .ensures) (rw (c .before .k .given .1) at (c .before .before .before .receipt .ensures)) ∙ c .before .before .before .before .before .before .before .fields .inv .1
+returns-2 c =
+    let told = c .before in
+    let got = told .before .before in
+    let d = got .before in
+    let l = d .before .before .before in
+    let first = l .before .before in
+    not-received (first .args .e) (first .args .s) (l .fields .frames) (left d) (frame d) (is-frame d) (d .content-of .ensures) (rw (told .k .given .1) at (got .receipt .ensures)) ∙ l .fields .inv .1
 
 returns-3 : tie.Need-returns-3 Inv-bytes μ-bytes Inv-fields μ-fields
 returns-3 c =
-    let d = c .before .before .before .before .before .before .before .before in
-    not-summed (c .before .before .before .before .before .before .before .before .before .before .before .before .before .args .e) (c .before .before .before .before .before .before .before .before .before .before .before .before .before .args .s) (c .before .before .before .before .before .before .before .before .before .before .before .fields .frames) (left d) (frame d) (is-frame d) (d .content-of .ensures) (received (c .before .before .before .before .before)) (λ h. c .if3 .taken (c .before .before .before .bytes .inv .1 ∙ rw (c .before .before .if2 .taken, c .before .before .before .before .byte .ensures) h ∙ sym (c .before .byte2 .ensures))) ∙ c .before .before .before .before .before .before .before .before .before .before .before .fields .inv .1
+    let end = c .before .before in
+    let turn = end .before in
+    let got = turn .before .before in
+    let d = got .before .before .before in
+    let l = d .before .before .before in
+    let first = l .before .before in
+    not-summed (first .args .e) (first .args .s) (l .fields .frames) (left d) (frame d) (is-frame d) (d .content-of .ensures) (received got)
+    (λ h. c .if3 .taken (turn .bytes .inv .1 ∙ rw (end .if2 .taken, turn .before .byte .ensures) h ∙ sym (c .before .byte2 .ensures)))
+    ∙ l .fields .inv .1
 
 returns-4 : tie.Need-returns-4 Inv-bytes μ-bytes Inv-fields μ-fields
 returns-4 c =
-    let d = c .before .before .before .before .before .before .before .before .before .before .before .before .before in
-    not-meant (c .before .before .before .before .before .before .before .before .before .before .before .before .before .before .before .before .before .before .args .e) (c .before .before .before .before .before .before .before .before .before .before .before .before .before .before .before .before .before .before .args .s) (c .before .before .before .before .before .before .before .before .before .before .before .before .before .before .before .before .fields .frames) (left d) (frame d) (is-frame d) (d .content-of .ensures) (received (c .before .before .before .before .before .before .before .before .before .before)) (sums (c .before .before .before .before .before)) _ (c .before .before .before .before .packet-of .ensures) (rw (c .before .k2 .given .1) at (c .before .before .before .packet-fault .ensures)) ∙ c .before .before .before .before .before .before .before .before .before .before .before .before .before .before .before .before .fields .inv .1
+    let told = c .before in
+    let fault = told .before .before in
+    let good = fault .before .before in
+    let got = good .before .before .before .before .before in
+    let d = got .before .before .before in
+    let l = d .before .before .before in
+    let first = l .before .before in
+    not-meant (first .args .e) (first .args .s) (l .fields .frames) (left d) (frame d) (is-frame d) (d .content-of .ensures) (received got) (sums good) _ (fault .before .packet-of .ensures) (rw (told .k2 .given .1) at (fault .packet-fault .ensures)) ∙ l .fields .inv .1
 
 pub scan-spec : {M : Type 1} → statement M
 scan-spec =

@@ -17,15 +17,37 @@ returns c = rw (← c .before .wrong-sizes .ensures, c .if1 .taken)
 
 returns-2 : tie.Need-returns-2
 unfolding replayOf
-returns-2 c = rw (← c .before .before .wrong-sizes .ensures, c .before .if1 .left) (below _ _ _ _ _ (c .if2 .taken) refl)
+returns-2 c =
+    let sized = c .before in
+    rw (← sized .before .wrong-sizes .ensures, sized .if1 .left) (below _ _ _ _ _ (c .if2 .taken) refl)
 
 returns-3 : tie.Need-returns-3
 unfolding replayOf
-returns-3 c = let fields = c .before .before .before .before .before .before .before .part .ensures ∙ ap (partOf (c .before .before .before .before .before .before .before .before .before .before .before .before .before .before .before .before .before .before .args .save .now)) (c .before .before .before .before .before .before .before .before .rest-of .ensures) ∙ part-rest (c .before .before .before .before .before .before .before .before .before .before .before .before .before .before .before .before .before .before .args .save .now) 11 in rw (← c .before .before .before .before .before .before .before .before .before .before .before .before .before .before .wrong-sizes .ensures, c .before .before .before .before .before .before .before .before .before .before .before .before .before .if1 .left) (above _ _ _ _ _ (c .before .before .before .before .before .before .before .before .before .before .before .before .if2 .left) (rw (c .before .before .before .before .store .ensures, fields) (replay-stores (length (c .before .before .before .before .before .before .before .before .before .before .before .before .before .before .before .before .before .before .args .eeprom .now)) (length (c .before .before .before .before .before .before .before .before .before .before .before .before .before .before .before .before .before .before .args .settings .now)) (c .before .before .before .before .before .before .before .before .before .before .before .before .before .before .before .before .before .before .args .save .now) (memory (c .before .before .before .before .before .before .before .before .before .before .before .before .before .before .before .before .before .before .args .eeprom .now) (c .before .before .before .before .before .before .before .before .before .before .before .before .before .before .before .before .before .before .args .settings .now)) (rw (c .before .before .before .before .before .before .before .before .before .enum-told .given .1) at (c .before .before .before .before .before .before .before .before .before .before .before .judge-for .ensures)))))
+returns-3 c =
+    let call = c .before .before .before .before in
+    let lent = call .before .before .before in
+    let told = lent .before .before in
+    let judged = told .before .before in
+    let short = judged .before in
+    let sized = short .before in
+    let first = sized .before .before .before .before .before in
+    let e = length (first .args .eeprom .now) in
+    let s = length (first .args .settings .now) in
+    let l = first .args .save .now in
+    let fields = lent .part .ensures ∙ ap (partOf l) (lent .before .rest-of .ensures) ∙ part-rest l 11 in
+    let stores = replay-stores e s l (memory (first .args .eeprom .now) (first .args .settings .now)) (rw (told .enum-told .given .1) at (judged .judge-for .ensures)) in
+    rw (← sized .before .wrong-sizes .ensures, sized .if1 .left) (above _ _ _ _ _ (short .if2 .left) (rw (call .store .ensures, fields) stores))
 
 returns-4 : tie.Need-returns-4
 unfolding replayOf
-returns-4 c = rw (← c .before .before .before .before .before .before .wrong-sizes .ensures, c .before .before .before .before .before .if1 .left) (above _ _ _ _ _ (c .before .before .before .before .if2 .left) (replay-refuses (length (c .before .before .before .before .before .before .before .before .before .before .args .eeprom .now)) (length (c .before .before .before .before .before .before .before .before .before .before .args .settings .now)) (c .before .before .before .before .before .before .before .before .before .before .args .save .now) (memory (c .before .before .before .before .before .before .before .before .before .before .args .eeprom .now) (c .before .before .before .before .before .before .before .before .before .before .args .settings .now)) (rw (c .before .k .given .1) at (c .before .before .before .judge-for .ensures))))
+returns-4 c =
+    let told = c .before in
+    let judged = told .before .before in
+    let short = judged .before in
+    let sized = short .before in
+    let first = sized .before .before .before .before .before in
+    let refuses = replay-refuses (length (first .args .eeprom .now)) (length (first .args .settings .now)) (first .args .save .now) _ (rw (told .k .given .1) at (judged .judge-for .ensures)) in
+    rw (← sized .before .wrong-sizes .ensures, sized .if1 .left) (above _ _ _ _ _ (short .if2 .left) refuses)
 
 pub replay-spec : {M : Type 1} → statement M
 replay-spec =
