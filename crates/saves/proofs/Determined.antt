@@ -17,6 +17,7 @@ use Rattle.saves.specs.declared.judge.Judged.the-variants.{Sound, Refuse
 use Rattle.saves.proofs.save.save.Reads as save
 use Rattle.saves.proofs.judge.judge.Reads as judge
 use Rattle.saves.proofs.replay.replay.Reads as replay
+use Rattle.saves.proofs.listing.list.Reads as list
 
 -- an answer is known by its reading
 pub judged-once : (a b : Judged) → judged a ≡ judged b → a ≡ b
@@ -33,3 +34,6 @@ judge-fixed κs args a b x y p q = judged-once a b (agree p q)
 
 pub replay-fixed : Fixes (Done × Memory) replay.Post (λ κs answer left. (answer, memory (now (left .0)) (now (left .1 .0))))
 replay-fixed κs args a b x y p q = both done done-once (agree p q)
+
+pub list-fixed : Fixes (Written × List ℕ) list.Post (λ κs answer left. (answer, now (left .1 .0)))
+list-fixed κs args a b x y p q = both written written-once (agree p q)

@@ -7,4 +7,6 @@ pub mod Writes
 pub mod Rising
 pub mod Round
 pub mod Codec
+pub mod Text
+pub mod Lines
 pub mod Determined

@@ -54,10 +54,10 @@ module _ (l : List ℕ) where
   abbrev frames : List (List ℕ)
   frames = streamOf (drop 11 l) .frames
 
-  -- the save is for the sizes in its first field, and its frames write what it means
-  pub own-writes : {save : Save} → judgedOf l ≡ accepted save → (shapeOf l ≡ accepted (save .shape)) × (framesWrite (save .shape .eeprom) (save .shape .settings) frames ≡ save .writes)
+  -- the save is for the sizes in its first field, and holds what its frames mean
+  pub own-means : {save : Save} → judgedOf l ≡ accepted save → (shapeOf l ≡ accepted (save .shape)) × (allMean (save .shape .eeprom) (save .shape .settings) frames ≡ accepted (save .writes))
   unfolding judgedOf fieldsMean
-  own-writes {save} h =
+  own-means {save} h =
       let shaped = then-both (shapeOf l) (λ (sh : Shape). pick (badSizes (sh .eeprom) (sh .settings)) (refused wrongSizes) (readFor sh l)) h in
       let sh = shaped .value in
       let e = sh .eeprom in
@@ -66,7 +66,11 @@ module _ (l : List ℕ) where
       let all = then-both (allMean e s frames) (λ (ws : List Write). andThen (endOf (0 + length ws) (streamOf (drop 11 l) .tail)) (λ u. accepted ws)) (read .first) in
       let end = then-both (endOf (0 + length (all .value)) (streamOf (drop 11 l) .tail)) (λ u. accepted (all .value)) (all .second) in
       let is : saveOf sh (read .value) ≡ save = same-value (read .second) in
-      rw (← is) (shaped .first, all-write e s frames (all .first) ∙ same-value (end .second))
+      rw (← is) (shaped .first, all .first ∙ ap accepted (same-value (end .second)))
+
+  -- and its frames write that
+  pub own-writes : {save : Save} → judgedOf l ≡ accepted save → (shapeOf l ≡ accepted (save .shape)) × (framesWrite (save .shape .eeprom) (save .shape .settings) frames ≡ save .writes)
+  own-writes h = let own = own-means h in (own .0, all-write _ _ frames (own .1))
 
   judged-writes : (e s : ℕ) {save : Save} → judgedFor e s l ≡ accepted save → framesWrite e s frames ≡ save .writes
   unfolding judgedFor

@@ -5,3 +5,6 @@ pub mod Replay
 pub mod Writes
 pub mod Judged
 pub mod Stored
+pub mod Listing
+pub mod Line
+pub mod Listed

@@ -1,6 +1,7 @@
 // Saves: both memories of a processor as a stream of fields, each frame in it a command that writes.
-// A save is written, judged, and replayed. (added)
+// A save is written, judged, replayed and listed. (added)
 pub mod judge;
+pub mod listing;
 mod means;
 pub mod replay;
 pub mod save;
