@@ -9,4 +9,5 @@ pub mod Round
 pub mod Codec
 pub mod Text
 pub mod Lines
+pub mod Fits
 pub mod Determined

@@ -19,7 +19,7 @@ use Rattle.saves.specs.Stored.{frameWrites, framesWrite}
 use Rattle.saves.specs.Listing.{writeLines, shapeName, pairLine, endLine, textFor, textOf}
 use Rattle.saves.specs.Listed.{linesOf, framesText}
 use Rattle.saves.proofs.Streams.{stream-frame, stream-end}
-use Rattle.saves.proofs.Storing.{own-means, own-writes}
+use Rattle.saves.proofs.Storing.{own, own-writes}
 
 lines-append : (v w : List Write) → writeLines (v ++ w) ≡ writeLines v ++ writeLines w
 lines-append [] w = refl
@@ -113,7 +113,7 @@ module _ (e s : ℕ) where
 module _ (l : List ℕ) where
   -- the text of its frames is its text
   own-text : {save : Save} → judgedOf l ≡ accepted save → framesText (save .shape) (drop 11 l) ≡ textOf save
-  own-text {save} h = rw (means-count _ _ _ (own-means l h .1), own-writes l h .1)
+  own-text {save} h = rw (means-count _ _ _ (own l h .means), own-writes l h)
 
   module _ (out : List ℕ) {r : Outcome ℕ × List ℕ} where
     pub lists : {shape : Shape} → accepted shape ≡ onAccepted (λ (save : Save). save .shape) (judgedOf l) → r ≡ into (framesText shape (drop 11 l)) out → r ≡ settle (onAccepted textOf (judgedOf l)) (λ text. text) out

@@ -2,7 +2,7 @@
 use Prim.Native.Nat.{ℕ, _+_}
 use mathlib.Core.Path.{_≡_, refl, sym, ap, _∙_}
 use mathlib.Core.Bool.{Bool, true, false}
-use mathlib.Core.List.{List, [], _∷_, _++_}
+use mathlib.Core.List.{List, [], _∷_}
 use lib.ListN.{length, drop}
 use Rattle.octets.specs.Outcome.{Outcome, accepted, refused, andThen}
 use Rattle.octets.specs.Refusals.{wrongSizes}
@@ -50,14 +50,24 @@ module _ (e s : ℕ) where
       let u = then-both (allMean e s fs) (λ ws. accepted (t .value ∷ ws)) (t .second) in
       rw (frame-writes f (t .first), all-write fs (u .first)) (same-value (u .second))
 
+not-picked : {A : Type 0} (b : Bool) (k : ℕ) (o : Outcome A) {a : A} → pick b (refused k) o ≡ accepted a → b ≡ false
+not-picked true k o h = absurd (refused-accepted h)
+not-picked false k o h = refl
+
 module _ (l : List ℕ) where
   abbrev frames : List (List ℕ)
   frames = streamOf (drop 11 l) .frames
 
-  -- the save is for the sizes in its first field, and holds what its frames mean
-  pub own-means : {save : Save} → judgedOf l ≡ accepted save → (shapeOf l ≡ accepted (save .shape)) × (allMean (save .shape .eeprom) (save .shape .settings) frames ≡ accepted (save .writes))
+  -- What stands in a sound save: the sizes in its first field, which are right, what its frames mean, and its last field.
+  pub record Own (save : Save) : Type 0 where
+    pub shaped : shapeOf l ≡ accepted (save .shape)
+    pub sized : badSizes (save .shape .eeprom) (save .shape .settings) ≡ false
+    pub means : allMean (save .shape .eeprom) (save .shape .settings) frames ≡ accepted (save .writes)
+    pub ended : endOf (0 + length (save .writes)) (streamOf (drop 11 l) .tail) ≡ accepted tt
+
+  pub own : {save : Save} → judgedOf l ≡ accepted save → Own save
   unfolding judgedOf fieldsMean
-  own-means {save} h =
+  own {save} h =
       let shaped = then-both (shapeOf l) (λ (sh : Shape). pick (badSizes (sh .eeprom) (sh .settings)) (refused wrongSizes) (readFor sh l)) h in
       let sh = shaped .value in
       let e = sh .eeprom in
@@ -65,12 +75,13 @@ module _ (l : List ℕ) where
       let read = then-both (fieldsMean e s 0 (drop 11 l)) (λ (ws : List Write). accepted (saveOf sh ws)) (was-picked (badSizes e s) wrongSizes (readFor sh l) (shaped .second)) in
       let all = then-both (allMean e s frames) (λ (ws : List Write). andThen (endOf (0 + length ws) (streamOf (drop 11 l) .tail)) (λ u. accepted ws)) (read .first) in
       let end = then-both (endOf (0 + length (all .value)) (streamOf (drop 11 l) .tail)) (λ u. accepted (all .value)) (all .second) in
+      let ws : all .value ≡ read .value = same-value (end .second) in
       let is : saveOf sh (read .value) ≡ save = same-value (read .second) in
-      rw (← is) (shaped .first, all .first ∙ ap accepted (same-value (end .second)))
+      rw (← is, ← ws) (record { shaped = shaped .first; sized = not-picked (badSizes e s) wrongSizes (readFor sh l) (shaped .second); means = all .first; ended = end .first })
 
-  -- and its frames write that
-  pub own-writes : {save : Save} → judgedOf l ≡ accepted save → (shapeOf l ≡ accepted (save .shape)) × (framesWrite (save .shape .eeprom) (save .shape .settings) frames ≡ save .writes)
-  own-writes h = let own = own-means h in (own .0, all-write _ _ frames (own .1))
+  -- and its frames write what they mean
+  pub own-writes : {save : Save} → judgedOf l ≡ accepted save → framesWrite (save .shape .eeprom) (save .shape .settings) frames ≡ save .writes
+  own-writes h = all-write _ _ frames (own h .means)
 
   judged-writes : (e s : ℕ) {save : Save} → judgedFor e s l ≡ accepted save → framesWrite e s frames ≡ save .writes
   unfolding judgedFor
@@ -78,11 +89,11 @@ module _ (l : List ℕ) where
       let shaped = then-both (shapeOf l) (λ (sh : Shape). ifEq (sh .eeprom) e (ifEq (sh .settings) s (judgedOf l) (refused wrongSizes)) (refused wrongSizes)) h in
       let a = was-same _ _ _ _ (shaped .second) in
       let b = was-same _ _ _ _ (a .1) in
-      let own = own-writes (b .1) in
-      let same-shape : shaped .value ≡ save .shape = same-value (sym (shaped .first) ∙ own .0) in
+      let whole = own (b .1) in
+      let same-shape : shaped .value ≡ save .shape = same-value (sym (shaped .first) ∙ whole .shaped) in
       let e-same : save .shape .eeprom ≡ e = ap (λ (sh : Shape). sh .eeprom) (sym same-shape) ∙ a .0 in
       let s-same : save .shape .settings ≡ s = ap (λ (sh : Shape). sh .settings) (sym same-shape) ∙ b .0 in
-      rw (e-same, s-same) at (own .1)
+      rw (e-same, s-same) at (own-writes (b .1))
 
 pub replay-stores : (e s : ℕ) (l : List ℕ) (m : Memory) → accepted tt ≡ sound (judgedFor e s l) → (accepted tt, store (framesWrite e s (streamOf (drop 11 l) .frames)) m) ≡ storing m (judgedFor e s l)
 replay-stores e s l m h = go (judgedFor e s l) refl h
