@@ -24,6 +24,7 @@ use Rattle.saves.specs.Save.{field, shapeField, frameField, memoryPacket, wordP
 use Rattle.saves.specs.Stream.{contentOf, behind, tagOf, streamUpTo, streamOf, endOf, shapeOf}
 use Rattle.saves.specs.Means.{packetMeans, frameMeans}
 use Rattle.saves.specs.Replay.{fieldsMean, judgedOf, judgedFor, replayOf}
+use Rattle.saves.specs.Listing.{leading, decimal, hexDigits, pairLine, settingLine, endLine, textFor}
 use Rattle.bench_list.specs.List.{BenchList, ReadsPastEnd}
 
 sized : (m : Memory) → length (m .eeprom) ≡ 65536 → length (m .settings) ≤ 65536 → wronglySized m ≡ false
@@ -35,7 +36,7 @@ unfolding ifLt partOf
 past-end d m payload out e s = rw (sized m e s, e)
 
 pub bench-list : BenchList
-unfolding ifLt ifEq bigAt littleAt bigBytes littleBytes over overAt partOf outsideOf total frameOf magnitude roundTo patternOf cutSum encoded codeOf aroundZero bitsOfCode byteOf addrAt addrBytes packetOf kindOf commandOf responseOf responseKindOf field shapeField frameField memoryPacket wordPacket rising endField blocks fieldsFor saveOf contentOf behind tagOf streamUpTo streamOf endOf shapeOf packetMeans frameMeans fieldsMean judgedOf judgedFor replayOf
+unfolding ifLt ifEq bigAt littleAt bigBytes littleBytes over overAt partOf outsideOf total frameOf magnitude roundTo patternOf cutSum encoded codeOf aroundZero bitsOfCode byteOf addrAt addrBytes packetOf kindOf commandOf responseOf responseKindOf field shapeField frameField memoryPacket wordPacket rising endField blocks fieldsFor saveOf contentOf behind tagOf streamUpTo streamOf endOf shapeOf packetMeans frameMeans fieldsMean judgedOf judgedFor replayOf leading decimal hexDigits pairLine settingLine endLine textFor
 bench-list =
     record {
       frame-empty = refl;
@@ -54,5 +55,6 @@ bench-list =
       reads-past-end = past-end;
       response-02 = refl;
       save-worked = refl;
+      listing-worked = λ out. refl;
       replay-worked = λ a b c. refl;
     }

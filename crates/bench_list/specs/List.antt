@@ -5,7 +5,7 @@ use mathlib.Core.Bool.{true}
 use mathlib.Core.List.{List, [], _∷_}
 use lib.ListN.{length, replicate}
 use Rattle.octets.specs.Outcome.{Outcome, accepted, refused}
-use Rattle.octets.specs.Over.{over}
+use Rattle.octets.specs.Over.{over, into}
 use Rattle.octets.specs.Place.{placeAt}
 use Rattle.packet.specs.Frame.{frameOf}
 use Rattle.packet.specs.Receipt.{plainOf}
@@ -21,6 +21,7 @@ use Rattle.device.specs.Execute.{executedRecord}
 use Rattle.device.specs.declared.Device.{Device}
 use Rattle.saves.specs.Save.{saveOf}
 use Rattle.saves.specs.Replay.{replayOf}
+use Rattle.saves.specs.Listing.{listedInto}
 
 -- "For bare E = 2, S = 1"
 abbrev pub bare : Memory
@@ -32,6 +33,14 @@ worked =
     ∷ 0x10 ∷ 0x00 ∷ 0x07 ∷ 0x06 ∷ 0x04 ∷ 0x00 ∷ 0x00 ∷ 0xFF ∷ 0xFF ∷ 0x08
     ∷ 0x10 ∷ 0x00 ∷ 0x0A ∷ 0x09 ∷ 0x13 ∷ 0x80 ∷ 0x00 ∷ 0x00 ∷ 0x00 ∷ 0x00 ∷ 0x00 ∷ 0x00 ∷ 0x9C
     ∷ 0x7F ∷ 0x00 ∷ 0x04 ∷ 0x00 ∷ 0x00 ∷ 0x00 ∷ 0x02 ∷ []
+
+-- "and the output", its four lines
+abbrev pub listed : List ℕ
+listed =
+    115 ∷ 104 ∷ 97 ∷ 112 ∷ 101 ∷ 32 ∷ 50 ∷ 32 ∷ 49 ∷ 10
+    ∷ 109 ∷ 101 ∷ 109 ∷ 111 ∷ 114 ∷ 121 ∷ 32 ∷ 48 ∷ 32 ∷ 50 ∷ 10
+    ∷ 115 ∷ 101 ∷ 116 ∷ 116 ∷ 105 ∷ 110 ∷ 103 ∷ 32 ∷ 48 ∷ 32 ∷ 48 ∷ 48 ∷ 48 ∷ 48 ∷ 48 ∷ 48 ∷ 48 ∷ 48 ∷ 10
+    ∷ 101 ∷ 110 ∷ 100 ∷ 32 ∷ 50 ∷ 10 ∷ []
 
 -- "ReadMemory 65535 size 2 is FF FF on a new device whatever is stored"
 abbrev pub ReadsPastEnd : Type 0
@@ -56,4 +65,5 @@ pub record BenchList : Type 0 where
   pub reads-past-end : ReadsPastEnd
   pub response-02 : responseOf (0x02 ∷ []) ≡ refused 3
   pub save-worked : saveOf bare ≡ worked
+  pub listing-worked : (out : List ℕ) → listedInto worked out ≡ into listed out
   pub replay-worked : (a b c : ℕ) → replayOf (memory (a ∷ b ∷ []) (c ∷ [])) worked ≡ (accepted tt, bare)
