@@ -83,9 +83,9 @@ module _ (l : List ℕ) where
   pub own-writes : {save : Save} → judgedOf l ≡ accepted save → framesWrite (save .shape .eeprom) (save .shape .settings) frames ≡ save .writes
   own-writes h = all-write _ _ frames (own h .means)
 
-  judged-writes : (e s : ℕ) {save : Save} → judgedFor e s l ≡ accepted save → framesWrite e s frames ≡ save .writes
+  pub judged-means : (e s : ℕ) {save : Save} → judgedFor e s l ≡ accepted save → allMean e s frames ≡ accepted (save .writes)
   unfolding judgedFor
-  judged-writes e s {save} h =
+  judged-means e s {save} h =
       let shaped = then-both (shapeOf l) (λ (sh : Shape). ifEq (sh .eeprom) e (ifEq (sh .settings) s (judgedOf l) (refused wrongSizes)) (refused wrongSizes)) h in
       let a = was-same _ _ _ _ (shaped .second) in
       let b = was-same _ _ _ _ (a .1) in
@@ -93,7 +93,10 @@ module _ (l : List ℕ) where
       let same-shape : shaped .value ≡ save .shape = same-value (sym (shaped .first) ∙ whole .shaped) in
       let e-same : save .shape .eeprom ≡ e = ap (λ (sh : Shape). sh .eeprom) (sym same-shape) ∙ a .0 in
       let s-same : save .shape .settings ≡ s = ap (λ (sh : Shape). sh .settings) (sym same-shape) ∙ b .0 in
-      rw (e-same, s-same) at (own-writes (b .1))
+      rw (e-same, s-same) at (whole .means)
+
+  judged-writes : (e s : ℕ) {save : Save} → judgedFor e s l ≡ accepted save → framesWrite e s frames ≡ save .writes
+  judged-writes e s h = all-write e s frames (judged-means e s h)
 
 pub replay-stores : (e s : ℕ) (l : List ℕ) (m : Memory) → accepted tt ≡ sound (judgedFor e s l) → (accepted tt, store (framesWrite e s (streamOf (drop 11 l) .frames)) m) ≡ storing m (judgedFor e s l)
 replay-stores e s l m h = go (judgedFor e s l) refl h
