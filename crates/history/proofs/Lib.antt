@@ -1,0 +1,11 @@
+pub mod Steps
+pub mod Makers
+pub mod Replays
+pub mod History
+pub mod Turns
+pub mod Words
+pub mod Values
+pub mod Kept
+pub mod Restores
+pub mod Transfers
+pub mod Determined
