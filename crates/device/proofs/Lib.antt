@@ -11,3 +11,5 @@ pub mod Tallies
 pub mod Named
 pub mod Effects
 pub mod Accepted
+pub mod Said
+pub mod Counts

@@ -6,6 +6,7 @@ use facts::probe::DeviceKind;
 pub mod create;
 mod effect;
 pub mod execute;
+pub mod lent;
 pub mod memory;
 pub mod tally;
 

@@ -1,0 +1,33 @@
+// The tally lent by its caller, and updated where it stands.
+ghost use mathlib.Core.Path.{_≡_};
+ghost use Rattle.octets.specs.Outcome.{written};
+ghost use Rattle.device.specs.Memory.{memory};
+ghost use Rattle.device.specs.Execute.{receivedInto};
+ghost use Rattle.device.specs.Tally.{after};
+use crate::Device;
+use crate::execute::receive;
+use crate::tally::Tally;
+use octets::Written;
+
+// Counts one more answer.
+pub fn count_lent(tally: &mut Tally, answer: Written)
+    ensures { λ _. ⌜ now (tally .exit) ≡ after (now (tally .entry)) (written answer) ⌝ }
+{
+    *tally = tally.count(answer);
+}
+
+// Receives a frame, as `receive` does, and counts it.
+pub fn receive_lent(
+    tally: &mut Tally,
+    device: Device,
+    frame: &[u8],
+    eeprom: &mut [u8],
+    settings: &mut [u32],
+    out: &mut [u8],
+) -> Written
+    ensures { λ r. ⌜ ((written r, memory (now (eeprom .exit)) (now (settings .exit)), now (out .exit)) ≡ receivedInto device (now (frame .entry)) (memory (now (eeprom .entry)) (now (settings .entry))) (now (out .entry))) × (now (tally .exit) ≡ after (now (tally .entry)) (written r)) ⌝ }
+{
+    let answer = receive(device, frame, eeprom, settings, out);
+    *tally = tally.count(answer);
+    answer
+}
