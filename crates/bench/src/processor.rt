@@ -14,8 +14,8 @@ use crate::word::LONGEST;
 use device::Device;
 use device::create;
 use device::create::Made;
+use device::lent::receive_lending;
 use device::tally::Tally;
-use device::tally::receive_counted;
 use octets::number;
 
 // The most meters that a request names.
@@ -169,9 +169,9 @@ fn send(
     let n = line::bytes(args, 1, &mut bytes);
     let room = line::size(args, 2);
     let frame = line::head(&bytes, n);
-    let counted = receive_counted(
-        device,
+    let counted = receive_lending(
         tally,
+        device,
         frame,
         eeprom,
         settings,

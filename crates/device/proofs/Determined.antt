@@ -46,6 +46,7 @@ use Rattle.device.proofs.tally.Tally.count.Reads as count
 use Rattle.device.proofs.tally.receive_counted.Reads as receive-counted
 use Rattle.device.proofs.lent.count_lent as count-lent
 use Rattle.device.proofs.lent.receive_lent as receive-lent
+use Rattle.device.proofs.lent.receive_lending.Reads as receive-lending
 
 -- an answer is known by its reading
 pub made-once : (a b : Made) → made a ≡ made b → a ≡ b
@@ -130,3 +131,6 @@ count-lent-fixed κs args a b x y p q = agree p q
 
 pub receive-lent-fixed : Fixes (Written × Memory × List ℕ × Tally) ReceiveLent (λ κs answer left. (answer, memory (now (left .1 .1 .1 .0)) (now (left .1 .1 .1 .1 .0)), now (left .1 .1 .1 .1 .1 .0), now (left .0)))
 receive-lent-fixed κs args a b x y p q = with-tally (now (args .0)) (three written written-once (agree (p .0) (q .0))) (p .1) (q .1)
+
+pub receive-lending-fixed : Fixes (Written × Memory × List ℕ × Tally) receive-lending.Post (λ κs answer left. (answer .answer, memory (now (left .1 .1 .1 .0)) (now (left .1 .1 .1 .1 .0)), now (left .1 .1 .1 .1 .1 .0), answer .tally))
+receive-lending-fixed κs args a b x y p q = with-tally (args .0) (three written written-once (agree (p .0) (q .0))) (p .1) (q .1)

@@ -6,6 +6,7 @@ ghost use Rattle.device.specs.Execute.{receivedInto};
 ghost use Rattle.device.specs.Tally.{after};
 use crate::Device;
 use crate::execute::receive;
+use crate::tally::Counted;
 use crate::tally::Tally;
 use octets::Written;
 
@@ -30,4 +31,23 @@ pub fn receive_lent(
     let answer = receive(device, frame, eeprom, settings, out);
     *tally = tally.count(answer);
     answer
+}
+
+// The same of a tally by value, which is lent for the call: a caller of this needs no reference.
+pub fn receive_lending(
+    tally: Tally,
+    device: Device,
+    frame: &[u8],
+    eeprom: &mut [u8],
+    settings: &mut [u32],
+    out: &mut [u8],
+) -> Counted
+    ensures { λ r. ⌜ ((written (r .answer), memory (now (eeprom .exit)) (now (settings .exit)), now (out .exit)) ≡ receivedInto device (now (frame .entry)) (memory (now (eeprom .entry)) (now (settings .entry))) (now (out .entry))) × (r .tally ≡ after tally (written (r .answer))) ⌝ }
+{
+    let mut lent = tally;
+    let answer = receive_lent(&mut lent, device, frame, eeprom, settings, out);
+    Counted {
+        answer,
+        tally: lent,
+    }
 }
