@@ -27,13 +27,20 @@ pub fn run(
     output: &mut [u8; 262144],
     eeprom: &mut [u8; 65537],
     settings: &mut [u32; 65537],
+    kept: &mut [u8; 1048576],
 ) {
-    serve(input, output, eeprom, settings);
+    serve(input, output, eeprom, settings, kept);
 }
 
 // Answers each line of the input. The last one may lack its line end; of one that is too long the
 // start is dropped.
-fn serve(input: &mut [u8], output: &mut [u8], eeprom: &mut [u8], settings: &mut [u32]) {
+fn serve(
+    input: &mut [u8],
+    output: &mut [u8],
+    eeprom: &mut [u8],
+    settings: &mut [u32],
+    kept: &mut [u8],
+) {
     let mut state = state::first();
     let mut have = 0;
     let mut long = false;
@@ -42,11 +49,11 @@ fn serve(input: &mut [u8], output: &mut [u8], eeprom: &mut [u8], settings: &mut 
         reads -= 1;
         let more = read_behind(input, have);
         if more == 0 {
-            last_line(&input[0..have], long, state, eeprom, settings, output);
+            last_line(&input[0..have], long, state, eeprom, settings, kept, output);
             return;
         }
         let end = have + more;
-        let used = answer_lines(&input[0..end], long, state, eeprom, settings, output);
+        let used = answer_lines(&input[0..end], long, state, eeprom, settings, kept, output);
         state = used.state;
         long = too_long(used.bytes, end, input.len(), long);
         have = keep(input, used.bytes, end, long);
@@ -59,10 +66,11 @@ fn last_line(
     state: State,
     eeprom: &mut [u8],
     settings: &mut [u32],
+    kept: &mut [u8],
     output: &mut [u8],
 ) {
     if 0 < line.len() || long {
-        let answered = answer(line, long, state, eeprom, settings, output);
+        let answered = answer(line, long, state, eeprom, settings, kept, output);
         flush(output, answered.end);
     }
 }
@@ -92,6 +100,7 @@ fn answer_lines(
     state: State,
     eeprom: &mut [u8],
     settings: &mut [u32],
+    kept: &mut [u8],
     output: &mut [u8],
 ) -> Used
     ensures { λ r. ⌜ r .bytes ≤ length (now (lines .entry)) ⌝ }
@@ -107,12 +116,12 @@ fn answer_lines(
             continue;
         }
         let line = &lines[used..i];
-        let answered = answer_behind(line, first_is_long, held, eeprom, settings, output, n);
+        i += 1;
+        used = i;
+        let answered = answer_behind(line, first_is_long, held, eeprom, settings, kept, output, n);
         n = answered.end;
         held = answered.state;
         first_is_long = false;
-        used = i + 1;
-        i += 1;
     }
     flush(output, n);
     Used {
@@ -129,17 +138,18 @@ fn answer_behind(
     state: State,
     eeprom: &mut [u8],
     settings: &mut [u32],
+    kept: &mut [u8],
     output: &mut [u8],
     n: usize,
 ) -> Answered {
     if output.len() < n {
-        return answer(line, long, state, eeprom, settings, output);
+        return answer(line, long, state, eeprom, settings, kept, output);
     }
     if output.len() - n < ANSWER {
         flush(output, n);
-        return answer(line, long, state, eeprom, settings, output);
+        return answer(line, long, state, eeprom, settings, kept, output);
     }
-    let answered = answer(line, long, state, eeprom, settings, &mut output[n..]);
+    let answered = answer(line, long, state, eeprom, settings, kept, &mut output[n..]);
     let state = answered.state;
     same(end_behind(n, answered.end, output.len()), state)
 }

@@ -17,6 +17,7 @@ mod reply;
 mod request;
 mod responding;
 mod row;
+mod saving;
 mod state;
 mod status;
 mod values;
@@ -29,5 +30,12 @@ fn main() {
     // one more than a device takes, so that a memory that is too large can be lent
     let mut eeprom = [0xffu8; 65537];
     let mut settings = [0u32; 65537];
-    console::run(&mut input, &mut output, &mut eeprom, &mut settings);
+    let mut kept = [0u8; 1048576];
+    console::run(
+        &mut input,
+        &mut output,
+        &mut eeprom,
+        &mut settings,
+        &mut kept,
+    );
 }

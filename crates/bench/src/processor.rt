@@ -1,10 +1,10 @@
 // Requests over the crate device that change what the bench holds of it.
 ghost use Prim.Native.Nat.{_≤_};
 ghost use lib.ListN.{length};
-use crate::calls;
 use crate::devices;
 use crate::line;
 use crate::reply;
+use crate::saving;
 use crate::state::Answered;
 use crate::state::State;
 use crate::state::same;
@@ -15,22 +15,24 @@ use device::Device;
 use device::create;
 use device::create::Made;
 use device::lent::receive_lending;
+use device::tally::Counted;
 use device::tally::Tally;
 use octets::number;
 
 // The most meters that a request names.
 const METERS: usize = 512;
 
-// Answers a request of this part, whose answer ends at 0 where the verb is none of its own.
+// Answers a request of this part, of saving or of calls, whose answer ends at 0 where the verb is of
+// none of them.
 pub fn by_verb(
     verb: &[u8],
     args: &[u8],
     state: State,
     eeprom: &mut [u8],
     settings: &mut [u32],
+    kept: &mut [u8],
     out: &mut [u8],
 ) -> Answered {
-    let device = state.device;
     let eeprom = line::front(eeprom, state.eeprom);
     let settings = line::front_words(settings, state.settings);
     match line::which(verb, b"lend bare new send tally zero") {
@@ -40,10 +42,7 @@ pub fn by_verb(
         4 => send(args, state, eeprom, settings, out),
         5 => tally(state, out),
         6 => zero(state, out),
-        _ => same(
-            calls::by_verb(verb, args, device, eeprom, settings, out),
-            state,
-        ),
+        _ => saving::by_verb(verb, args, state, eeprom, settings, kept, out),
     }
 }
 
@@ -60,6 +59,7 @@ fn lend(args: &[u8], state: State, out: &mut [u8]) -> Answered {
         settings: line::size(args, 2),
         device,
         tally,
+        kept: state.kept,
     };
     same(reply::done(out), state)
 }
@@ -168,19 +168,21 @@ fn send(
     let mut lent = [0xeeu8; LONGEST];
     let n = line::bytes(args, 1, &mut bytes);
     let room = line::size(args, 2);
-    let frame = line::head(&bytes, n);
     let counted = receive_lending(
         tally,
         device,
-        frame,
+        line::head(&bytes, n),
         eeprom,
         settings,
         line::front(&mut lent, room),
     );
+    put_counted(counted, line::head(&lent, room), state, out)
+}
+
+fn put_counted(counted: Counted, lent: &[u8], state: State, out: &mut [u8]) -> Answered {
     let answer = counted.answer;
     let tally = counted.tally;
-    let end = reply::written(answer, line::head(&lent, room), out);
-    same(end, with_tally(state, tally))
+    same(reply::written(answer, lent, out), with_tally(state, tally))
 }
 
 fn tally(state: State, out: &mut [u8]) -> Answered {

@@ -25,9 +25,10 @@ pub fn answer(
     state: State,
     eeprom: &mut [u8],
     settings: &mut [u32],
+    kept: &mut [u8],
     out: &mut [u8],
 ) -> Answered {
-    let answered = answer_text(line, long, state, eeprom, settings, out);
+    let answered = answer_text(line, long, state, eeprom, settings, kept, out);
     let state = answered.state;
     same(reply::text(b"\n", out, answered.end), state)
 }
@@ -39,6 +40,7 @@ fn answer_text(
     state: State,
     eeprom: &mut [u8],
     settings: &mut [u32],
+    kept: &mut [u8],
     out: &mut [u8],
 ) -> Answered {
     if long {
@@ -47,7 +49,7 @@ fn answer_text(
     if line.len() == 0 || line[0] == b'#' {
         return same(reply::text(line, out, 0), state);
     }
-    let answered = processor::by_verb(first(line), rest(line), state, eeprom, settings, out);
+    let answered = processor::by_verb(first(line), rest(line), state, eeprom, settings, kept, out);
     if 0 < answered.end {
         return answered;
     }

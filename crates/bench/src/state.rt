@@ -1,5 +1,5 @@
-// What the bench holds between requests beside the two memories: how much of each it lends, the
-// device, and the tally.
+// What the bench holds between requests beside the two memories and the bytes for a save: how much
+// of each memory it lends, the device, the tally, and how many of the bytes are the save that it keeps.
 use device::Device;
 use device::tally::Tally;
 use facts::probe::DeviceKind;
@@ -9,6 +9,7 @@ pub struct State {
     pub settings: usize,
     pub device: Device,
     pub tally: Tally,
+    pub kept: usize,
 }
 
 // Where an answer ends, 0 where the request was none of the part's own, and what is held after it.
@@ -32,6 +33,7 @@ pub fn first() -> State {
         settings: 0,
         device,
         tally: Tally::zeroed(),
+        kept: 0,
     }
 }
 
@@ -46,6 +48,7 @@ pub fn with_device(state: State, device: Device) -> State {
         settings: state.settings,
         device,
         tally,
+        kept: state.kept,
     }
 }
 
@@ -56,5 +59,18 @@ pub fn with_tally(state: State, tally: Tally) -> State {
         settings: state.settings,
         device,
         tally,
+        kept: state.kept,
+    }
+}
+
+pub fn with_kept(state: State, kept: usize) -> State {
+    let device = state.device;
+    let tally = state.tally;
+    State {
+        eeprom: state.eeprom,
+        settings: state.settings,
+        device,
+        tally,
+        kept,
     }
 }

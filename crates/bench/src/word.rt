@@ -1,6 +1,6 @@
 // What a single word is: bytes, a number in decimal, or a word of 32 bits. The letters of a shape:
 //   x BYTES   p BYTES in pairs   r ROOM   n NUMBER   m NUMBER to 65,537   h NUMBER to 65,535
-//   b NUMBER to 255   t BIT   w WORD   - any
+//   k NUMBER to 1,048,576   b NUMBER to 255   t BIT   w WORD   - any
 ghost use Prim.Native.Nat.{_<_};
 
 // The longest packet, frame or payload that a request takes, and the most room.
@@ -38,6 +38,7 @@ pub fn fits(word: &[u8], letter: u8) -> bool {
         b'n' => is_to(decimal(word), 0xffff_ffff),
         b'r' => is_to(decimal(word), LONGEST as u32),
         b'm' => is_to(decimal(word), 65537),
+        b'k' => is_to(decimal(word), 1_048_576),
         b'h' => is_to(decimal(word), 65535),
         b'b' => is_to(decimal(word), 255),
         b't' => is_to(decimal(word), 1),
