@@ -9,6 +9,7 @@ mod numbers;
 mod processor;
 mod records;
 mod responses;
+mod saves;
 mod views;
 pub mod words;
 

@@ -6,6 +6,7 @@ mod numbers;
 mod processor;
 mod records;
 mod responses;
+mod saves;
 mod views;
 
 use std::io::Write;
@@ -22,6 +23,7 @@ pub const PARTS: &[(&str, Part)] = &[
     ("views", views::requests),
     ("responses", responses::requests),
     ("device", processor::requests),
+    ("saves", saves::requests),
 ];
 
 pub fn part(name: &str, seed: u64, out: &mut impl Write) {

@@ -13,7 +13,7 @@ use super::{
     answers,
     encoding::{framed, whole},
     fields::Lent,
-    outside, records,
+    outside, records, saves,
     words::{byte, bytes, half, hex, hex32, number, refused, untouched, unwritten, word32, written, LONGEST},
     OUTSIDE,
 };
@@ -28,6 +28,7 @@ pub struct Processor {
     settings_rest: Vec<u32>,
     accepted: u32,
     refused: u32,
+    kept: saves::Save,
 }
 
 impl Default for Processor {
@@ -38,6 +39,7 @@ impl Default for Processor {
             settings_rest: vec![0; MOST + 1],
             accepted: 0,
             refused: 0,
+            kept: saves::Save::default(),
         }
     }
 }
@@ -63,6 +65,10 @@ impl Processor {
             "peek" => hex(part(&self.mock.eeprom, args)),
             "peek_words" => peek_words(part(&self.mock.settings, args)),
             "digest" => self.digest(),
+            "save" => self.save(number(args[0])),
+            "keep" => self.keep(number(args[0])),
+            "kept" => hex(part(&self.kept.bytes, args)),
+            "restore" => self.restore(),
             "tally" => format!("accepted {} refused {}", self.accepted, self.refused),
             "zero" => {
                 (self.accepted, self.refused) = (0, 0);
@@ -188,6 +194,47 @@ impl Processor {
             return refused(14);
         }
         self.settled(call, |()| "done".to_string())
+    }
+
+    /// 14, then 6.
+    fn save(&self, room: usize) -> String {
+        if self.wrongly_sized() {
+            return unwritten(14, room);
+        }
+        written(&saves::save(&self.mock.eeprom, &self.mock.settings).bytes, room)
+    }
+
+    fn keep(&mut self, room: usize) -> String {
+        if self.wrongly_sized() {
+            return refused(14);
+        }
+        let save = saves::save(&self.mock.eeprom, &self.mock.settings);
+        if room < save.bytes.len() {
+            return refused(6);
+        }
+        self.kept = save;
+        self.kept.bytes.len().to_string()
+    }
+
+    /// The mock executes every frame of the save that is kept, and then has the memories that were saved.
+    fn restore(&mut self) -> String {
+        let kept = self.kept.clone();
+        let sizes = (kept.eeprom.len(), kept.settings.len());
+        if self.wrongly_sized() {
+            return refused(14);
+        }
+        if kept.bytes.is_empty() {
+            return refused(13);
+        }
+        if (self.mock.eeprom.len(), self.mock.settings.len()) != sizes {
+            return refused(14);
+        }
+        for frame in &kept.frames {
+            let response = self.mock.execute(&received(frame).unwrap());
+            assert!(matches!(response, Responses::Ack));
+        }
+        assert!(self.mock.eeprom == kept.eeprom && self.mock.settings == kept.settings);
+        "done".to_string()
     }
 
     fn digest(&self) -> String {

@@ -13,12 +13,12 @@ const SETTINGS: &[usize] = &[0, 1, 2, 5, 62, 63, 64, 300, 65_535, 65_536];
 const KINDS: &[&str] = &["Generic", "M2x4Hd", "Flex", "DDRC88BM"];
 
 /// The two sizes that are lent.
-struct Sizes {
-    eeprom: usize,
-    settings: usize,
+pub struct Sizes {
+    pub eeprom: usize,
+    pub settings: usize,
 }
 
-type Line<'a> = &'a mut dyn FnMut(String);
+pub type Line<'a> = &'a mut dyn FnMut(String);
 
 pub fn requests(random: &mut Random, line: Line) {
     for i in 0..420 {
@@ -60,7 +60,7 @@ fn too_large(random: &mut Random, line: Line) {
     }
 }
 
-fn make(new: bool, sizes: &Sizes, random: &mut Random, line: Line) {
+pub fn make(new: bool, sizes: &Sizes, random: &mut Random, line: Line) {
     let (hw, dsp) = (random.next() as u8, random.next() as u8);
     let device = format!("{hw} {dsp} {} {}", random.pick(KINDS), records::half(random));
     if !new && (sizes.eeprom != 65_536 || random.below(2) == 0) {
@@ -86,7 +86,7 @@ fn near(size: usize, random: &mut Random) -> usize {
 }
 
 /// A few frames, good, damaged and random, and at times another call.
-fn run(sizes: &Sizes, random: &mut Random, line: Line) {
+pub fn run(sizes: &Sizes, random: &mut Random, line: Line) {
     for _ in 0..3 {
         let frame = framed(&packet(sizes, random));
         send(&frame, random, line);
