@@ -61,9 +61,9 @@ executed-once (Response r) (NotExecuted k) h = cc
 executed-once (NotExecuted k) (Response s) h = cc
 executed-once (NotExecuted j) (NotExecuted k) h = cc
 
--- where the tally is fixed by the answer, what is left with it
-with-tally : (h : Tally) {a b : Written} {m n : Memory} {out out′ : List ℕ} {s t : Tally} → _≡_ {A = Written × Memory × List ℕ} (a, m, out) (b, n, out′) → s ≡ after h (written a) → t ≡ after h (written b) → _≡_ {A = Written × Memory × List ℕ × Tally} (a, m, out, s) (b, n, out′, t)
-with-tally h same p q = let told = ap (λ (left : Written × Memory × List ℕ). after h (written (left .0))) same in λ i. (same i .0, same i .1, same i .2, (p ∙ told ∙ sym q) i)
+-- where the answer fixes the tally f, what is left with it
+with-tally : (f : Written → Tally) {a b : Written} {m n : Memory} {x y : List ℕ} {s t : Tally} → _≡_ {A = Written × Memory × List ℕ} (a, m, x) (b, n, y) → s ≡ f a → t ≡ f b → _≡_ {A = Written × Memory × List ℕ × Tally} (a, m, x, s) (b, n, y, t)
+with-tally f same p q = let told = ap (λ (left : Written × Memory × List ℕ). f (left .0)) same in λ i. (same i .0, same i .1, same i .2, (p ∙ told ∙ sym q) i)
 
 pub wrong-sizes-fixed : Fixes Bool wrong-sizes.Post (λ κs answer left. answer)
 wrong-sizes-fixed κs args a b x y p q = agree p q
@@ -105,7 +105,7 @@ pub count-fixed : Fixes Tally count.Post (λ κs answer left. answer)
 count-fixed κs args a b x y p q = agree p q
 
 pub receive-counted-fixed : Fixes (Written × Memory × List ℕ × Tally) receive-counted.Post (λ κs answer left. (answer .answer, memory (now (left .1 .1 .1 .0)) (now (left .1 .1 .1 .1 .0)), now (left .1 .1 .1 .1 .1 .0), answer .tally))
-receive-counted-fixed κs args a b x y p q = with-tally (args .1 .0) (three written written-once (agree (p .0) (q .0))) (p .1) (q .1)
+receive-counted-fixed κs args a b x y p q = with-tally (λ w. after (args .1 .0) (written w)) (three written written-once (agree (p .0) (q .0))) (p .1) (q .1)
 
 -- A function that is lent a struct has no `Reads`, since the borrow checker does not cover it: so its contract is written
 -- here once more, and `..-says` that it is that one.
@@ -130,7 +130,7 @@ pub count-lent-fixed : Fixes Tally CountLent (λ κs answer left. now (left .0))
 count-lent-fixed κs args a b x y p q = agree p q
 
 pub receive-lent-fixed : Fixes (Written × Memory × List ℕ × Tally) ReceiveLent (λ κs answer left. (answer, memory (now (left .1 .1 .1 .0)) (now (left .1 .1 .1 .1 .0)), now (left .1 .1 .1 .1 .1 .0), now (left .0)))
-receive-lent-fixed κs args a b x y p q = with-tally (now (args .0)) (three written written-once (agree (p .0) (q .0))) (p .1) (q .1)
+receive-lent-fixed κs args a b x y p q = with-tally (λ w. after (now (args .0)) (written w)) (three written written-once (agree (p .0) (q .0))) (p .1) (q .1)
 
 pub receive-lending-fixed : Fixes (Written × Memory × List ℕ × Tally) receive-lending.Post (λ κs answer left. (answer .answer, memory (now (left .1 .1 .1 .0)) (now (left .1 .1 .1 .1 .0)), now (left .1 .1 .1 .1 .1 .0), answer .tally))
-receive-lending-fixed κs args a b x y p q = with-tally (args .0) (three written written-once (agree (p .0) (q .0))) (p .1) (q .1)
+receive-lending-fixed κs args a b x y p q = with-tally (λ w. after (args .0) (written w)) (three written written-once (agree (p .0) (q .0))) (p .1) (q .1)
