@@ -223,9 +223,6 @@ impl Processor {
         if self.wrongly_sized() {
             return refused(14);
         }
-        if kept.bytes.is_empty() {
-            return refused(13);
-        }
         if (self.mock.eeprom.len(), self.mock.settings.len()) != sizes {
             return refused(14);
         }

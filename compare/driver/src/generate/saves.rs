@@ -28,8 +28,6 @@ fn room(sizes: &Sizes) -> usize {
 }
 
 pub fn requests(random: &mut Random, line: Line) {
-    line("lend 0 0".to_string());
-    line("restore".to_string());
     for &(eeprom, settings) in SIZES {
         for times in 0..3 {
             let sizes = Sizes { eeprom, settings };
