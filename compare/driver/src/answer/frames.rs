@@ -32,20 +32,27 @@ fn plain(frame: Vec<u8>) -> String {
     }
 }
 
-/// Strict receipt is added: read from document 01, since the Rust has none.
 fn strict(frame: &[u8]) -> String {
+    match strictly(frame) {
+        Ok(packet) => format!("1 {} {}", packet.len(), hex(packet)),
+        Err(number) => refused(number),
+    }
+}
+
+/// Strict receipt is added: read from document 01, since the Rust has none.
+pub fn strictly(frame: &[u8]) -> Result<&[u8], u8> {
     let length = frame.first().map_or(0, |&byte| byte as usize);
     if length == 0 {
-        return refused(1);
+        return Err(1);
     }
     if frame.len() < length + 1 {
-        return refused(2);
+        return Err(2);
     }
     if frame.len() > length + 1 {
-        return refused(10);
+        return Err(10);
     }
     if frame[..length].iter().fold(0u8, |sum, &b| sum.wrapping_add(b)) != frame[length] {
-        return refused(9);
+        return Err(9);
     }
-    format!("1 {} {}", length - 1, hex(&frame[1..length]))
+    Ok(&frame[1..length])
 }

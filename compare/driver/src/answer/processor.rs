@@ -28,7 +28,9 @@ pub struct Processor {
     settings_rest: Vec<u32>,
     accepted: u32,
     refused: u32,
-    kept: saves::Save,
+    /// A save, and the memories that it was made of.
+    kept: Vec<u8>,
+    kept_from: (Vec<u8>, Vec<u32>),
 }
 
 impl Default for Processor {
@@ -39,12 +41,13 @@ impl Default for Processor {
             settings_rest: vec![0; MOST + 1],
             accepted: 0,
             refused: 0,
-            kept: saves::Save::default(),
+            kept: Vec::new(),
+            kept_from: Default::default(),
         }
     }
 }
 
-fn caught<T>(call: impl FnOnce() -> T) -> Option<T> {
+pub fn caught<T>(call: impl FnOnce() -> T) -> Option<T> {
     catch_unwind(AssertUnwindSafe(call)).ok()
 }
 
@@ -67,8 +70,10 @@ impl Processor {
             "digest" => self.digest(),
             "save" => self.save(number(args[0])),
             "keep" => self.keep(number(args[0])),
-            "kept" => hex(part(&self.kept.bytes, args)),
+            "kept" => hex(part(&self.kept, args)),
             "restore" => self.restore(),
+            "replay" => self.replay(&bytes(args[0])),
+            "judge" => judge(&bytes(args[0])),
             "tally" => format!("accepted {} refused {}", self.accepted, self.refused),
             "zero" => {
                 (self.accepted, self.refused) = (0, 0);
@@ -201,37 +206,50 @@ impl Processor {
         if self.wrongly_sized() {
             return unwritten(14, room);
         }
-        written(&saves::save(&self.mock.eeprom, &self.mock.settings).bytes, room)
+        written(&saves::save(&self.mock), room)
     }
 
     fn keep(&mut self, room: usize) -> String {
         if self.wrongly_sized() {
             return refused(14);
         }
-        let save = saves::save(&self.mock.eeprom, &self.mock.settings);
-        if room < save.bytes.len() {
+        let save = saves::save(&self.mock);
+        if room < save.len() {
             return refused(6);
         }
         self.kept = save;
-        self.kept.bytes.len().to_string()
+        self.kept_from = self.memories();
+        self.kept.len().to_string()
     }
 
-    /// The mock executes every frame of the save that is kept, and then has the memories that were saved.
+    /// The mock that executed every frame of the save has the memories that were saved.
     fn restore(&mut self) -> String {
         let kept = self.kept.clone();
-        let sizes = (kept.eeprom.len(), kept.settings.len());
+        let answer = self.replay(&kept);
+        assert!(!is_accepted(&answer) || self.memories() == self.kept_from);
+        answer
+    }
+
+    /// 14, then the first fault: the memories then stay as they were.
+    fn replay(&mut self, stream: &[u8]) -> String {
         if self.wrongly_sized() {
             return refused(14);
         }
-        if (self.mock.eeprom.len(), self.mock.settings.len()) != sizes {
-            return refused(14);
+        let before = self.memories();
+        let lent = (self.mock.eeprom.len(), self.mock.settings.len());
+        let replayed = saves::sizes(stream).and_then(|(sizes, fields)| match sizes == lent {
+            true => saves::run(&mut self.mock, fields),
+            false => Err(14),
+        });
+        if let Err(number) = replayed {
+            (self.mock.eeprom, self.mock.settings) = before;
+            return refused(number);
         }
-        for frame in &kept.frames {
-            let response = self.mock.execute(&received(frame).unwrap());
-            assert!(matches!(response, Responses::Ack));
-        }
-        assert!(self.mock.eeprom == kept.eeprom && self.mock.settings == kept.settings);
         "done".to_string()
+    }
+
+    fn memories(&self) -> (Vec<u8>, Vec<u32>) {
+        (self.mock.eeprom.clone(), self.mock.settings.clone())
     }
 
     fn digest(&self) -> String {
@@ -240,6 +258,19 @@ impl Processor {
         let words = digest(settings.iter().copied());
         format!("{} {bytes} {} {words}", eeprom.len(), settings.len())
     }
+}
+
+/// Against the save's own sizes.
+fn judge(stream: &[u8]) -> String {
+    let judged = saves::sizes(stream).and_then(|((e, s), fields)| {
+        if e > MOST || s > MOST {
+            return Err(14);
+        }
+        let (eeprom, settings) = (vec![0xFF; e], vec![0; s]);
+        saves::run(&mut MockDevice { eeprom, settings, ..Default::default() }, fields)?;
+        Ok(format!("{e} {s}"))
+    });
+    judged.unwrap_or_else(refused)
 }
 
 fn is_accepted(answer: &str) -> bool {

@@ -1,22 +1,24 @@
 //! Saves of devices after a run of calls, looked at and put back: on the same device after other calls,
-//! on another of the same sizes, and on one of other sizes.
+//! on another of the same sizes, and on one of other sizes; then streams of writes in any order.
 use super::{
+    frames::framed,
     processor::{make, run, Line, Sizes},
     Random,
 };
+use crate::answer::words::hex;
 
 /// Sizes around the blocks of a save, and the most that a device has.
 const SIZES: &[(usize, usize)] = &[
-    (65_536, 65_536),
+    (33, 3),
     (0, 0),
     (1, 1),
     (31, 2),
     (32, 0),
-    (33, 3),
     (0, 7),
     (300, 20),
     (65_535, 5),
     (65_505, 65_535),
+    (65_536, 65_536),
 ];
 
 /// The most bytes of the save that is kept that a request shows.
@@ -28,11 +30,12 @@ fn room(sizes: &Sizes) -> usize {
 }
 
 pub fn requests(random: &mut Random, line: Line) {
-    for &(eeprom, settings) in SIZES {
-        for times in 0..3 {
+    for times in 0..3 {
+        for &(eeprom, settings) in SIZES {
             let sizes = Sizes { eeprom, settings };
             saved(&sizes, times == 0, random, line);
             put_back(&sizes, random, line);
+            streams(&sizes, random, line);
         }
     }
     too_large(line);
@@ -87,4 +90,57 @@ fn too_large(line: Line) {
         line("keep 1048576".to_string());
         restored(line);
     }
+}
+
+/// Streams of writes in any order, good and damaged, replayed one after the other.
+fn streams(sizes: &Sizes, random: &mut Random, line: Line) {
+    line(format!("lend {} {}", sizes.eeprom, sizes.settings));
+    make(false, sizes, random, line);
+    for _ in 0..40 {
+        let mut stream = stream(sizes, random);
+        match random.below(8) {
+            0 => stream.truncate(random.below(stream.len())),
+            1 => stream.push(random.next() as u8),
+            2 | 3 => {
+                let at = random.below(stream.len());
+                stream[at] ^= 1 << random.below(8);
+            }
+            _ => {}
+        }
+        line(format!("replay {}", hex(&stream)));
+        line("digest".to_string());
+        line(format!("judge {}", hex(&stream)));
+    }
+}
+
+fn stream(sizes: &Sizes, random: &mut Random) -> Vec<u8> {
+    let size = |n: usize| (n as u32).to_be_bytes();
+    let count = random.below(4);
+    let mut stream = field(0x01, &[size(sizes.eeprom), size(sizes.settings)].concat());
+    for _ in 0..count {
+        stream.extend(field(0x10, &framed(&write(sizes, random))));
+    }
+    stream.extend(field(0x7F, &size(count)));
+    stream
+}
+
+fn field(tag: u8, content: &[u8]) -> Vec<u8> {
+    let length = (content.len() as u16).to_be_bytes();
+    [&[tag], &length[..], content].concat()
+}
+
+/// A packet that writes, most of them within the memories.
+fn write(sizes: &Sizes, random: &mut Random) -> Vec<u8> {
+    let past = random.below(9) / 8;
+    if random.below(2) == 0 && sizes.settings > 0 || sizes.eeprom == 0 {
+        let address = random.below((sizes.settings + past).max(1));
+        let [_, top, high, low] = (address as u32).to_be_bytes();
+        let first = top | random.pick(&[0x80, 0x80, 0x80, 0x00, 0xF0]);
+        let n = random.pick(&[4, 4, 4, 4, 4, 4, 4, 4, 3, 5]);
+        return [&[0x13, first, high, low], &random.bytes(n)[..]].concat();
+    }
+    let n = random.pick(&[0, 1, 2, 32, 33, 251]).min(sizes.eeprom);
+    let address = random.below(sizes.eeprom - n + 1 + past);
+    let [high, low] = (address as u16).to_be_bytes();
+    [&[0x04, high, low], &random.bytes(n)[..]].concat()
 }
