@@ -3,8 +3,8 @@ use Prim.Native.Nat.{ℕ, _≤_}
 use mathlib.Core.Path.{_≡_}
 use mathlib.Core.Bool.{true}
 use mathlib.Core.List.{List, [], _∷_}
-use lib.ListN.{length, replicate}
-use Rattle.octets.specs.Outcome.{Outcome, accepted, refused}
+use lib.ListN.{length}
+use Rattle.octets.specs.Outcome.{accepted, refused}
 use Rattle.octets.specs.Over.{over, into}
 use Rattle.octets.specs.Place.{placeAt}
 use Rattle.packet.specs.Frame.{frameOf}

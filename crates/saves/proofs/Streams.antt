@@ -1,15 +1,12 @@
 -- Laws of reading a save's fields, one by one.
 use Prim.Native.Nat.{ℕ, zero, suc, _+_, _-_, _≤_, _<_}
 use mathlib.Core.Path.{_≡_, refl, sym, ap, _∙_}
-use mathlib.Core.Bool.{Bool, true, false}
-use mathlib.Core.List.{List, [], _∷_}
+use mathlib.Core.Bool.{true, false}
+use mathlib.Core.List.{List, []}
 use native.Mathlib.Omega.{arith}
-use lib.Dec.{eqb}
 use lib.ListN.{length, take, drop, length-drop}
 use lib.Seq.{take-all}
-use Rattle.octets.specs.Choice.{pick, ifLt, ifEq}
-use Rattle.octets.specs.Number.{at}
-use Rattle.octets.specs.Place.{placeAt, partOf}
+use Rattle.octets.specs.Choice.{ifEq}
 use Rattle.octets.proofs.Choosing.{same, other, either-lt, either-eq}
 use Rattle.saves.specs.Stream.{lengthOf, contentOf, behind, tagOf, Stream, stream, before, streamUpTo, streamOf}
 

@@ -6,7 +6,7 @@ use Rattle.octets.specs.Refusals.{tooLong, wrongSizes}
 use Rattle.octets.specs.Outcome.{Outcome, accepted, refused, andThen}
 use Rattle.octets.specs.Choice.{pick, ifLt, ifEq}
 use Rattle.device.specs.Memory.{Memory, Write, store, wronglySized, wrongSizes as badSizes}
-use Rattle.saves.specs.Stream.{Stream, streamOf, endOf, shapeOf}
+use Rattle.saves.specs.Stream.{streamOf, endOf, shapeOf}
 use Rattle.saves.specs.declared.judge.Shape.{Shape}
 use Rattle.saves.specs.Means.{allMean}
 

@@ -1,18 +1,18 @@
 -- The fields that are left are as sound as all of them, and the sum is that of the bytes gone over.
-use Prim.Native.Nat.{ℕ, _+_, _-_, _≤_, _<_}
-use mathlib.Core.Path.{_≡_, refl, sym, ap, _∙_}
+use Prim.Native.Nat.{ℕ, _+_, _-_, _≤_}
+use mathlib.Core.Path.{_≡_, refl, sym, _∙_}
 use mathlib.Core.List.{List}
 use native.Mathlib.Omega.{arith}
-use lib.ListN.{length, take, drop}
+use lib.ListN.{length, take}
 use denote.Ref.{now}
 use borrow.Author.Needs.{needs}
-use Rattle.octets.specs.Outcome.{Outcome, accepted, refused}
+use Rattle.octets.specs.Outcome.{accepted}
 use Rattle.octets.specs.Number.{at}
 use Rattle.packet.specs.Frame.{total, checksumOf}
 use Rattle.packet.specs.Receipt.{lengthByte}
 use Rattle.packet.proofs.Frames.{total-turn}
-use Rattle.saves.specs.Stream.{lengthOf, contentOf, behind, tagOf}
-use Rattle.saves.specs.Judged.{sound, receiptOf, packetIn}
+use Rattle.saves.specs.Stream.{tagOf}
+use Rattle.saves.specs.Judged.{sound, receiptOf}
 use Rattle.saves.specs.Replay.{fieldsMean}
 use Rattle.saves.proofs.Streams.{tag-whole, cut-behind, behind-shorter}
 use Rattle.saves.proofs.Judging.{none-left, as-long, not-received, not-summed, not-meant, goes-on}

@@ -1,5 +1,5 @@
 -- The sizes are compared before the save is judged.
-use mathlib.Core.Path.{_≡_, refl}
+use mathlib.Core.Path.{refl}
 use Rattle.octets.proofs.Choosing.{same, other}
 use Rattle.saves.specs.Replay.{judgedFor}
 use Rattle.saves.proofs.Judging.{still-sound}

@@ -1,10 +1,10 @@
 -- Judged whole, then stored.
-use mathlib.Core.Path.{_≡_, refl, ap, _∙_}
+use mathlib.Core.Path.{refl, ap, _∙_}
 use lib.ListN.{length}
 use Rattle.octets.specs.Place.{partOf}
 use Rattle.octets.proofs.Choosing.{below, above}
 use Rattle.device.specs.Memory.{memory}
-use Rattle.saves.specs.Replay.{replayOf, storing}
+use Rattle.saves.specs.Replay.{replayOf}
 use Rattle.octets.proofs.Parts.{part-rest}
 use Rattle.saves.proofs.Storing.{replay-stores, replay-refuses}
 use borrow.Author.Needs.{needs}

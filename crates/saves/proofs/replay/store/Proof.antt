@@ -1,13 +1,13 @@
 -- What is left to store, stored, is what all of it is.
 use borrow.Author.Needs.{needs}
-use Prim.Native.Nat.{ℕ, _+_, _-_, _≤_, _<_}
-use mathlib.Core.Path.{_≡_, refl, sym, ap, _∙_}
+use Prim.Native.Nat.{ℕ, _-_}
+use mathlib.Core.Path.{_≡_, refl, sym, _∙_}
 use mathlib.Core.List.{List}
 use native.Mathlib.Omega.{arith}
-use lib.ListN.{length, take, drop}
+use lib.ListN.{length}
 use Rattle.device.specs.Memory.{Memory, memory, store as storeAll}
-use Rattle.saves.specs.Stream.{lengthOf, contentOf, behind, tagOf, streamOf}
-use Rattle.saves.specs.Stored.{frameWrites, framesWrite}
+use Rattle.saves.specs.Stream.{tagOf, streamOf}
+use Rattle.saves.specs.Stored.{framesWrite}
 use Rattle.saves.proofs.Streams.{tag-whole, cut-behind, behind-shorter}
 use Rattle.saves.proofs.Storing.{none-stored, frame-stored}
 use Rattle.saves.proofs.replay.store.Statement.{statement}

@@ -1,6 +1,6 @@
 -- A length byte of 0 or 1 frames no bytes.
 use native.Mathlib.Omega.{arith}
-use Prim.Native.Nat.{ℕ, _-_}
+use Prim.Native.Nat.{_-_}
 use mathlib.Core.Path.{_≡_}
 use borrow.Author.Needs.{needs}
 use Rattle.saves.proofs.stream.packet_of.Statement.{statement}
