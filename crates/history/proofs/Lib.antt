@@ -1,8 +1,10 @@
 pub mod Steps
 pub mod Makers
+pub mod Octets
 pub mod Replays
 pub mod History
 pub mod Turns
+pub mod Saved
 pub mod Words
 pub mod Values
 pub mod Kept

@@ -4,7 +4,6 @@ use mathlib.Core.Path.{_≡_, refl, _∙_, subst}
 use mathlib.Core.Bool.{Bool, true, false}
 use mathlib.Core.List.{List, [], _∷_, _++_}
 use lib.ListN.{length, drop}
-use lib.Seq.{getD-drop}
 use Rattle.octets.specs.Refusals.{tooLong, wrongSizes}
 use Rattle.octets.specs.Outcome.{Outcome, accepted, refused}
 use Rattle.octets.specs.Choice.{pick, ifLt}
@@ -21,12 +20,10 @@ use Rattle.saves.specs.Replay.{Save, judgedFor, storing, replayOf}
 use Rattle.saves.proofs.Codec.{part-octets, frame-command}
 use Rattle.saves.proofs.Storing.{judged-means}
 use Rattle.history.specs.History.{AllBytes, frameNames, framesNames, framesIn}
+use Rattle.history.proofs.Octets.{behind-octets}
 use Rattle.history.proofs.Steps.{Right}
 
 -- ---- what is in bytes is bytes
-behind-octets : (l : List ℕ) (n : ℕ) → Bytes l → Bytes (drop n l)
-behind-octets l n octets i = rw getD-drop (octets (n + i))
-
 upto-octets : (n : ℕ) (l : List ℕ) → Bytes l → AllBytes (streamUpTo n l .frames)
 unfolding streamUpTo contentOf behind
 upto-octets zero l octets = tt

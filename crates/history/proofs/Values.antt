@@ -1,15 +1,13 @@
 -- What a call names at a word of the settings is a word: it was four bytes.
-use Prim.Native.Nat.{ℕ, zero, suc, _+_, _<_}
+use Prim.Native.Nat.{ℕ, zero, suc, _+_}
 use mathlib.Core.Bool.{Bool, true, false}
 use mathlib.Core.List.{List, [], _∷_}
-use native.Mathlib.Nat.{mod-lt}
-use lib.Dec.{lit<}
 use lib.ListN.{length}
 use lib.Ieee.{binary32, toBits}
 use Rattle.octets.specs.Refusals.{outside}
 use Rattle.octets.specs.Outcome.{Outcome, accepted, refused, andThen}
 use Rattle.octets.specs.Choice.{pick, ifLt, ifEq}
-use Rattle.octets.specs.Number.{at, Bytes, littleAt, littleBytes, bigBytes}
+use Rattle.octets.specs.Number.{at, Bytes, littleAt}
 use Rattle.octets.specs.Place.{partOf, outsideOf}
 use Rattle.octets.specs.declared.Place.{Place as Part}
 use Rattle.octets.proofs.Choosing.{either-lt, either-eq}
@@ -29,30 +27,15 @@ use Rattle.device.specs.Effect.{Effect, effect, tellsOf, writeMemory, writeWord
 use Rattle.device.specs.declared.Device.{Device}
 use Rattle.saves.proofs.Codec.{part-octets}
 use Rattle.history.specs.History.{Call, bare, new, blank, receive, execute, execute-into, write-u8, write-u16, write-u32, set-serial, set-timestamp, replay, save, writesOf, AllBytes, frameNames, framesNames, framesIn, named}
+use Rattle.history.proofs.Octets.{big-octets, little-octets}
 use Rattle.history.proofs.Replays.{frames-octets}
 use Rattle.history.proofs.Words.{AllWords, both-words, whole-words, zero-words, meters-words}
 
--- ---- four bytes
-four : (a b c d : ℕ) → a < 256 → b < 256 → c < 256 → d < 256 → Bytes (a ∷ b ∷ c ∷ d ∷ [])
-four a b c d p q r s zero = p
-four a b c d p q r s (suc zero) = q
-four a b c d p q r s (suc (suc zero)) = r
-four a b c d p q r s (suc (suc (suc zero))) = s
-four a b c d p q r s (suc (suc (suc (suc i)))) = lit< tt
-
-little-octets : (n : ℕ) → Bytes (littleBytes 4 n)
-unfolding littleBytes
-little-octets n = four _ _ _ _ (mod-lt _ (lit< tt)) (mod-lt _ (lit< tt)) (mod-lt _ (lit< tt)) (mod-lt _ (lit< tt))
-
-big-octets : (n : ℕ) → Bytes (bigBytes 4 n)
-unfolding bigBytes
-big-octets n = four _ _ _ _ (mod-lt _ (lit< tt)) (mod-lt _ (lit< tt)) (mod-lt _ (lit< tt)) (mod-lt _ (lit< tt))
-
 value-octets : (v : Value) (p : List ℕ) → Bytes p → Bytes (valueBytes v p)
-value-octets (Float x) p octets = little-octets (toBits binary32 x)
-value-octets (FixedPoint x) p octets = big-octets (x .0)
-value-octets (Int n) p octets = little-octets n
-value-octets (Int32 n) p octets = big-octets n
+value-octets (Float x) p octets = little-octets 4 (toBits binary32 x)
+value-octets (FixedPoint x) p octets = big-octets 4 (x .0)
+value-octets (Int n) p octets = little-octets 4 n
+value-octets (Int32 n) p octets = big-octets 4 n
 value-octets (UnknownValue part) p octets = part-octets p part octets
 
 -- ---- commands

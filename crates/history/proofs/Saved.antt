@@ -1,0 +1,59 @@
+-- "Every frame in it means a write by demand 2's definition": received and read as any frame, each frame of a save names one
+-- write, that of its block or its word.
+use Prim.Native.Nat.{ℕ, zero, suc, _+_, _*_, _%_, _^_, _≤_, _<_}
+use mathlib.Core.Path.{_≡_}
+use mathlib.Core.List.{List, [], _∷_, _++_}
+use native.Mathlib.Omega.{arith}
+use lib.Dec.{lit<}
+use lib.ListN.{length, take, drop}
+use Rattle.octets.specs.Number.{at, Bytes, bigBytes, littleBytes}
+use Rattle.octets.specs.Place.{placeAt, partOf}
+use Rattle.packet.specs.Frame.{frameOf}
+use Rattle.device.specs.Memory.{Memory}
+use Rattle.device.specs.declared.Device.{Device}
+use Rattle.saves.specs.Save.{memoryPacket, wordPacket, blocks}
+use Rattle.saves.specs.Writes.{Words, each, framesFor, writesFor}
+use Rattle.saves.proofs.Saved.{memory-packet, length-memory-packet, word-packet, length-word-packet}
+use Rattle.saves.proofs.Writes.{saved-writes}
+use Rattle.saves.proofs.Codec.{part-octets}
+use Rattle.history.specs.History.{AllBytes, framesNames}
+use Rattle.history.specs.Restores.{Sized}
+use Rattle.history.proofs.Octets.{one-more, both-octets, big-octets, little-octets, frame-octets}
+use Rattle.history.proofs.Replays.{frames-names}
+
+all-both : (a b : List (List ℕ)) → AllBytes a → AllBytes b → AllBytes (a ++ b)
+all-both [] b x y = y
+all-both (f ∷ a) b x y = (x .0, all-both a b (x .1) y)
+
+all-each : (packet : ℕ → List ℕ) (n : ℕ) → ((k : ℕ) → length (packet k) ≤ 254) → ((k : ℕ) → Bytes (packet k)) → AllBytes (each (λ k. frameOf (packet k)) n)
+unfolding each
+all-each packet zero short octets = tt
+all-each packet (suc n) short octets = all-both (each (λ k. frameOf (packet k)) n) (frameOf (packet n) ∷ []) (all-each packet n short octets) (frame-octets (packet n) (short n) (octets n), tt)
+
+module _ (m : Memory) (octets : Bytes (m .eeprom)) where
+  abbrev block : ℕ → List ℕ
+  block k = take 32 (drop (32 * k) (m .eeprom))
+
+  block-octets : (k : ℕ) → Bytes (block k)
+  unfolding partOf
+  block-octets k = part-octets (m .eeprom) (placeAt (32 * k) 32) octets
+
+  memory-octets : (k : ℕ) → Bytes (memoryPacket (m .eeprom) k)
+  memory-octets k = rw memory-packet (one-more 0x04 (bigBytes 2 (32 * k) ++ block k) (lit< tt) (both-octets (bigBytes 2 (32 * k)) (block k) (big-octets 2 (32 * k)) (block-octets k)))
+
+  word-octets : (k : ℕ) → Bytes (wordPacket (m .settings) k)
+  word-octets k =
+      let address = bigBytes 3 (k % 2 ^ 23 + 2 ^ 23) in
+      let value = littleBytes 4 (at (m .settings) k) in
+      rw word-packet (one-more 0x13 (address ++ value) (lit< tt) (both-octets address value (big-octets 3 (k % 2 ^ 23 + 2 ^ 23)) (little-octets 4 (at (m .settings) k))))
+
+  all-frames : AllBytes (framesFor m)
+  all-frames =
+      let e = length (m .eeprom) in
+      let s = length (m .settings) in
+      all-both (each (λ k. frameOf (memoryPacket (m .eeprom) k)) (blocks e)) (each (λ k. frameOf (wordPacket (m .settings) k)) s)
+      (all-each (memoryPacket (m .eeprom)) (blocks e) (λ k. omega (arith, length-memory-packet (m .eeprom) k)) memory-octets)
+      (all-each (wordPacket (m .settings)) s (λ k. omega (arith, length-word-packet (m .settings) k)) word-octets)
+
+  pub saved-named : (d : Device) → Sized m → Words (m .settings) → framesNames d (length (m .eeprom)) (length (m .settings)) (framesFor m) ≡ writesFor m
+  saved-named d fits words = frames-names d _ _ (framesFor m) all-frames (writesFor m) (saved-writes m (fits .0) (fits .1) words) .0
