@@ -2,6 +2,7 @@
 use Prim.Native.Nat.{ℕ, suc, _+_, _-_}
 use mathlib.Core.Path.{_≡_, refl, sym, ap, _∙_}
 use mathlib.Core.List.{List, [], _∷_}
+use native.Mathlib.Nat.{zero-add}
 use native.Mathlib.Omega.{arith}
 use lib.ListN.{length, take, getD}
 use Rattle.octets.specs.Refusals.{checksum}
@@ -26,13 +27,26 @@ sound-then (accepted u) a = refl
 sound-then (refused k) a = refl
 
 -- ---- fields
+-- what is left of a save, n frames having gone before
+unfoldable pub leftMean : ℕ → ℕ → ℕ → List ℕ → Outcome (List Write)
+leftMean e s n l =
+    andThen (allMean e s (streamOf l .frames)) (λ (ws : List Write). andThen (endOf (n + length ws) (streamOf l .tail)) (λ u. accepted ws))
+
+pub all-left : (e s : ℕ) (l : List ℕ) → leftMean e s 0 l ≡ fieldsMean e s l
+unfolding leftMean fieldsMean
+all-left e s l = go (allMean e s (streamOf l .frames))
+  where
+    go : (o : Outcome (List Write)) → andThen o (λ (ws : List Write). andThen (endOf (0 + length ws) (streamOf l .tail)) (λ u. accepted ws)) ≡ andThen o (λ (ws : List Write). andThen (endOf (length ws) (streamOf l .tail)) (λ u. accepted ws))
+    go (accepted ws) = rw zero-add
+    go (refused k) = refl
+
 module _ (e s n : ℕ) (l : List ℕ) where
-  pub none-left : (tagOf l ≡ 0x10 → ⊥) → endOf n l ≡ sound (fieldsMean e s n l)
-  unfolding fieldsMean
+  pub none-left : (tagOf l ≡ 0x10 → ⊥) → endOf n l ≡ sound (leftMean e s n l)
+  unfolding leftMean
   none-left h = let z : n + 0 ≡ n = omega arith in rw (stream-end l h, z) (sym (sound-then (endOf n l) []))
 
-  pub frame-first : tagOf l ≡ 0x10 → sound (fieldsMean e s n l) ≡ andThen (sound (frameMeans e s (contentOf l))) (λ u. sound (fieldsMean e s (n + 1) (behind l)))
-  unfolding fieldsMean
+  pub frame-first : tagOf l ≡ 0x10 → sound (leftMean e s n l) ≡ andThen (sound (frameMeans e s (contentOf l))) (λ u. sound (leftMean e s (n + 1) (behind l)))
+  unfolding leftMean
   frame-first h = rw (stream-frame l h) (first (frameMeans e s (contentOf l)) (allMean e s (streamOf (behind l) .frames)))
     where
       tail : List ℕ
@@ -86,21 +100,21 @@ module _ (f : List ℕ) where
 
 -- ---- the frame f at the front of l, as the scan finds it: each way on, and each way out
 module _ (e s n : ℕ) (l f : List ℕ) (tag : tagOf l ≡ 0x10) (is : f ≡ contentOf l) where
-  judged-by : sound (fieldsMean e s n l) ≡ andThen (andThen (receiptOf f) (λ u. summed f (sound (packetMeans e s (packetIn f))))) (λ u. sound (fieldsMean e s (n + 1) (behind l)))
-  judged-by = frame-first e s n l tag ∙ ap (λ (o : Outcome Unit). andThen o (λ u. sound (fieldsMean e s (n + 1) (behind l)))) (ap (λ (c : List ℕ). sound (frameMeans e s c)) (sym is) ∙ frame-judged f e s)
+  judged-by : sound (leftMean e s n l) ≡ andThen (andThen (receiptOf f) (λ u. summed f (sound (packetMeans e s (packetIn f))))) (λ u. sound (leftMean e s (n + 1) (behind l)))
+  judged-by = frame-first e s n l tag ∙ ap (λ (o : Outcome Unit). andThen o (λ u. sound (leftMean e s (n + 1) (behind l)))) (ap (λ (c : List ℕ). sound (frameMeans e s c)) (sym is) ∙ frame-judged f e s)
 
-  pub not-received : {k : ℕ} → refused k ≡ receiptOf f → refused k ≡ sound (fieldsMean e s n l)
+  pub not-received : {k : ℕ} → refused k ≡ receiptOf f → refused k ≡ sound (leftMean e s n l)
   not-received h = sym (judged-by ∙ rw (← h))
 
   module _ (received : accepted tt ≡ receiptOf f) where
-    pub not-summed : (checksumOf (take (lengthByte f) f) ≡ getD f (lengthByte f) 0 → ⊥) → refused checksum ≡ sound (fieldsMean e s n l)
+    pub not-summed : (checksumOf (take (lengthByte f) f) ≡ getD f (lengthByte f) 0 → ⊥) → refused checksum ≡ sound (leftMean e s n l)
     not-summed h = sym (judged-by ∙ rw (← received, ← other _ _ _ _ _ h refl))
 
     module _ (sums : checksumOf (take (lengthByte f) f) ≡ getD f (lengthByte f) 0) (p : List ℕ) (holds : p ≡ packetIn f) where
-      pub not-meant : {k : ℕ} → refused k ≡ sound (packetMeans e s p) → refused k ≡ sound (fieldsMean e s n l)
+      pub not-meant : {k : ℕ} → refused k ≡ sound (packetMeans e s p) → refused k ≡ sound (leftMean e s n l)
       not-meant h = sym (judged-by ∙ rw (← received, ← holds, ← h, ← same _ _ _ _ _ sums refl))
 
-      pub goes-on : accepted tt ≡ sound (packetMeans e s p) → sound (fieldsMean e s (n + 1) (behind l)) ≡ sound (fieldsMean e s n l)
+      pub goes-on : accepted tt ≡ sound (packetMeans e s p) → sound (leftMean e s (n + 1) (behind l)) ≡ sound (leftMean e s n l)
       goes-on h = sym (judged-by ∙ rw (← received, ← holds, ← h, ← same _ _ _ _ _ sums refl))
 
 -- ---- what is told of a save that is read

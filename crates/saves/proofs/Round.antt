@@ -53,10 +53,10 @@ module _ (m : Memory) (few : length (m .eeprom) ≤ 65536) (words-few : length (
   abbrev s : ℕ
   s = length (m .settings)
 
-  fields-mean : fieldsMean e s 0 (fieldsFor m) ≡ accepted (writesFor m)
+  fields-mean : fieldsMean e s (fieldsFor m) ≡ accepted (writesFor m)
   unfolding fieldsMean blocks
   fields-mean =
-      let n : 0 + length (writesFor m) ≡ blocks e + s = rw (length-append, length-each, length-each) (omega arith) in
+      let n : length (writesFor m) ≡ blocks e + s = rw (length-append, length-each, length-each) (omega arith) in
       rw (save-stream m, saved-writes m few words-few words, n, end-read (blocks e + s) (omega arith))
 
   sized : (m′ : Memory) → length (m′ .eeprom) ≡ e → length (m′ .settings) ≡ s → wronglySized m′ ≡ false

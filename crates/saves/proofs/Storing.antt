@@ -63,7 +63,7 @@ module _ (l : List ℕ) where
     pub shaped : shapeOf l ≡ accepted (save .shape)
     pub sized : badSizes (save .shape .eeprom) (save .shape .settings) ≡ false
     pub means : allMean (save .shape .eeprom) (save .shape .settings) frames ≡ accepted (save .writes)
-    pub ended : endOf (0 + length (save .writes)) (streamOf (drop 11 l) .tail) ≡ accepted tt
+    pub ended : endOf (length (save .writes)) (streamOf (drop 11 l) .tail) ≡ accepted tt
 
   pub own : {save : Save} → judgedOf l ≡ accepted save → Own save
   unfolding judgedOf fieldsMean
@@ -72,9 +72,9 @@ module _ (l : List ℕ) where
       let sh = shaped .value in
       let e = sh .eeprom in
       let s = sh .settings in
-      let read = then-both (fieldsMean e s 0 (drop 11 l)) (λ (ws : List Write). accepted (saveOf sh ws)) (was-picked (badSizes e s) wrongSizes (readFor sh l) (shaped .second)) in
-      let all = then-both (allMean e s frames) (λ (ws : List Write). andThen (endOf (0 + length ws) (streamOf (drop 11 l) .tail)) (λ u. accepted ws)) (read .first) in
-      let end = then-both (endOf (0 + length (all .value)) (streamOf (drop 11 l) .tail)) (λ u. accepted (all .value)) (all .second) in
+      let read = then-both (fieldsMean e s (drop 11 l)) (λ (ws : List Write). accepted (saveOf sh ws)) (was-picked (badSizes e s) wrongSizes (readFor sh l) (shaped .second)) in
+      let all = then-both (allMean e s frames) (λ (ws : List Write). andThen (endOf (length ws) (streamOf (drop 11 l) .tail)) (λ u. accepted ws)) (read .first) in
+      let end = then-both (endOf (length (all .value)) (streamOf (drop 11 l) .tail)) (λ u. accepted (all .value)) (all .second) in
       let ws : all .value ≡ read .value = same-value (end .second) in
       let is : saveOf sh (read .value) ≡ save = same-value (read .second) in
       rw (← is, ← ws) (record { shaped = shaped .first; sized = not-picked (badSizes e s) wrongSizes (readFor sh l) (shaped .second); means = all .first; ended = end .first })

@@ -1,5 +1,5 @@
 -- Judging a save, and replaying it. "Replay checks everything, then stores, in order".
-use Prim.Native.Nat.{ℕ, _+_}
+use Prim.Native.Nat.{ℕ}
 use mathlib.Core.List.{List}
 use lib.ListN.{length, drop}
 use Rattle.octets.specs.Refusals.{tooLong, wrongSizes}
@@ -10,10 +10,10 @@ use Rattle.saves.specs.Stream.{streamOf, endOf, shapeOf}
 use Rattle.saves.specs.declared.judge.Shape.{Shape}
 use Rattle.saves.specs.Means.{allMean}
 
--- the writes of the fields behind the first, n frames having gone before
-unfoldable pub fieldsMean : ℕ → ℕ → ℕ → List ℕ → Outcome (List Write)
-fieldsMean e s n l =
-    andThen (allMean e s (streamOf l .frames)) (λ (ws : List Write). andThen (endOf (n + length ws) (streamOf l .tail)) (λ u. accepted ws))
+-- the writes of the fields behind the first
+unfoldable pub fieldsMean : ℕ → ℕ → List ℕ → Outcome (List Write)
+fieldsMean e s l =
+    andThen (allMean e s (streamOf l .frames)) (λ (ws : List Write). andThen (endOf (length ws) (streamOf l .tail)) (λ u. accepted ws))
 
 pub record Save : Type 0 where
   pub shape : Shape
@@ -21,7 +21,7 @@ pub record Save : Type 0 where
 
 -- the writes of a whole save, for memories of the sizes in its first field
 abbrev pub readFor : Shape → List ℕ → Outcome Save
-readFor shape l = andThen (fieldsMean (shape .eeprom) (shape .settings) 0 (drop 11 l)) (λ (ws : List Write). accepted (record { shape = shape; writes = ws }))
+readFor shape l = andThen (fieldsMean (shape .eeprom) (shape .settings) (drop 11 l)) (λ (ws : List Write). accepted (record { shape = shape; writes = ws }))
 
 -- "judges it against the save's own sizes (over 65,536: 14)"
 unfoldable pub judgedOf : List ℕ → Outcome Save

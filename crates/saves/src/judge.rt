@@ -53,7 +53,7 @@ fn judge_sized(shape: Shape, save: &[u8]) -> Judged
 
 // Goes over the fields and, within, over each frame's bytes, and is left at the first fault.
 fn scan(fields: &[u8], e: usize, s: usize) -> Done
-    ensures { λ r. ⌜ done r ≡ sound (fieldsMean e s 0 (now (fields .entry))) ⌝ }
+    ensures { λ r. ⌜ done r ≡ sound (fieldsMean e s (now (fields .entry))) ⌝ }
 {
     let mut rest = fields;
     let mut frames = 0;

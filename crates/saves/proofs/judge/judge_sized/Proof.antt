@@ -23,7 +23,7 @@ told d =
     let shape = d .before .before .before .before .before .before .args .shape in
     let l = d .before .before .before .before .before .before .args .save .now in
     let fields = lent .part .ensures ∙ ap (partOf l) (lent .before .rest-of .ensures) ∙ part-rest l 11 in
-    rw (← sized .before .wrong-sizes .ensures, sized .if1 .left, only-shape shape (fieldsMean (shape .eeprom) (shape .settings) 0 (drop 11 l)), ← fields, ← d .scan .ensures)
+    rw (← sized .before .wrong-sizes .ensures, sized .if1 .left, only-shape shape (fieldsMean (shape .eeprom) (shape .settings) (drop 11 l)), ← fields, ← d .scan .ensures)
 
 returns-2 : tie.Need-returns-2
 returns-2 c = rw (told (c .before .before), c .enum-told .given .1)

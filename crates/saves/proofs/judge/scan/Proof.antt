@@ -1,6 +1,6 @@
 -- The fields that are left are as sound as all of them, and the sum is that of the bytes gone over.
 use Prim.Native.Nat.{ℕ, _+_, _-_, _≤_}
-use mathlib.Core.Path.{_≡_, refl, sym, _∙_}
+use mathlib.Core.Path.{_≡_, refl, sym, ap, _∙_}
 use mathlib.Core.List.{List}
 use native.Mathlib.Omega.{arith}
 use lib.ListN.{length, take}
@@ -15,7 +15,7 @@ use Rattle.saves.specs.Stream.{tagOf}
 use Rattle.saves.specs.Judged.{sound, receiptOf}
 use Rattle.saves.specs.Replay.{fieldsMean}
 use Rattle.saves.proofs.Streams.{tag-whole, cut-behind, behind-shorter}
-use Rattle.saves.proofs.Judging.{none-left, as-long, not-received, not-summed, not-meant, goes-on}
+use Rattle.saves.proofs.Judging.{leftMean, all-left, none-left, as-long, not-received, not-summed, not-meant, goes-on}
 use Rattle.saves.proofs.judge.scan.Statement.{statement}
 use Rattle.saves.proofs.judge.scan.Tie as tie
 
@@ -26,7 +26,7 @@ abbrev μ-bytes : tie.MeasureT-bytes
 μ-bytes fields e s rest frames frame len sum₀ i₀ sum i = len - i
 
 abbrev Inv-fields : tie.InvT-fields
-Inv-fields fields e s rest₀ frames₀ rest frames = (frames + length rest ≤ length fields) × (sound (fieldsMean e s frames rest) ≡ sound (fieldsMean e s 0 fields))
+Inv-fields fields e s rest₀ frames₀ rest frames = (frames + length rest ≤ length fields) × (sound (leftMean e s frames rest) ≡ sound (fieldsMean e s fields))
 
 abbrev μ-fields : tie.MeasureT-fields
 μ-fields fields e s rest₀ frames₀ rest frames = length rest
@@ -51,7 +51,7 @@ sums : (d : tie.Else3 Inv-bytes μ-bytes Inv-fields μ-fields) → let f = frame
 sums d = rw (← d .before .before .before .before .byte .ensures, ← d .before .before .if2 .taken) (sym (d .before .before .before .bytes .inv .1) ∙ d .if3 .left ∙ d .before .byte2 .ensures)
 
 fields-holds : tie.Need-fields-holds Inv-bytes μ-bytes Inv-fields μ-fields
-fields-holds c = (omega arith, refl)
+fields-holds c = let a = c .before .args in (omega arith, ap sound (all-left (a .e) (a .s) (a .fields .now)))
 
 bytes-holds : tie.Need-bytes-holds Inv-bytes μ-bytes Inv-fields μ-fields
 unfolding total
