@@ -7,13 +7,13 @@ use crate::reply;
 use crate::responding;
 use crate::word::LONGEST;
 use commands::Commands;
-use device::Device;
 use device::execute;
 use device::execute::Executed;
-use device::memory;
+use octets::Done;
 use octets::Place;
+use processor::Device;
+use processor::eeprom as memory;
 use responses::Responses;
-use responses::kind::Done;
 
 // Answers a request of this part; 0 where the verb is none of its own.
 pub fn by_verb(

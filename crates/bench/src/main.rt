@@ -11,7 +11,7 @@ mod encoding;
 mod frames;
 mod line;
 mod numeric;
-mod processor;
+mod processing;
 mod records;
 mod reply;
 mod request;

@@ -7,7 +7,7 @@ use crate::frames;
 use crate::line::first;
 use crate::line::rest;
 use crate::numeric;
-use crate::processor;
+use crate::processing;
 use crate::reply;
 use crate::responding;
 use crate::state::Answered;
@@ -49,7 +49,7 @@ fn answer_text(
     if line.len() == 0 || line[0] == b'#' {
         return same(reply::text(line, out, 0), state);
     }
-    let answered = processor::by_verb(first(line), rest(line), state, eeprom, settings, kept, out);
+    let answered = processing::by_verb(first(line), rest(line), state, eeprom, settings, kept, out);
     if 0 < answered.end {
         return answered;
     }

@@ -10,10 +10,9 @@ use crate::state::with_kept;
 use crate::word::LONGEST;
 use octets::Written;
 use saves::judge;
-use saves::judge::Judged;
-use saves::listing;
 use saves::replay;
 use saves::save;
+use saves::shape::Judged;
 
 // Answers a request of this part or of calls, whose answer ends at 0 where the verb is of neither.
 pub fn by_verb(
@@ -149,6 +148,6 @@ fn list_kept(args: &[u8], kept: &[u8], out: &mut [u8]) -> usize {
 
 fn put_listed(save: &[u8], room: usize, out: &mut [u8]) -> usize {
     let mut lent = [0xeeu8; LONGEST];
-    let written = listing::list(save, line::front(&mut lent, room));
+    let written = listed::list(save, line::front(&mut lent, room));
     reply::written(written, line::head(&lent, room), out)
 }

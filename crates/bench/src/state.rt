@@ -1,8 +1,8 @@
 // What the bench holds between requests beside the two memories and the bytes for a save: how much
 // of each memory it lends, the device, the tally, and how many of the bytes are the save that it keeps.
-use device::Device;
-use device::tally::Tally;
 use facts::probe::DeviceKind;
+use processor::Device;
+use tally::Tally;
 
 pub struct State {
     pub eeprom: usize,

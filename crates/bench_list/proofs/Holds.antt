@@ -17,12 +17,12 @@ use Rattle.fields.specs.Addr.{addrAt, addrBytes}
 use Rattle.fields.specs.Row.{packetOf}
 use Rattle.commands.specs.Decode.{kindOf, commandOf}
 use Rattle.responses.specs.Decode.{responseOf, kindOf as responseKindOf}
-use Rattle.device.specs.Memory.{Memory, wronglySized}
+use Rattle.processor.specs.Memory.{Memory, wronglySized}
 use Rattle.saves.specs.Save.{field, shapeField, frameField, memoryPacket, wordPacket, rising, endField, blocks, fieldsFor, saveOf}
 use Rattle.saves.specs.Stream.{contentOf, behind, tagOf, streamUpTo, streamOf, endOf, shapeOf}
 use Rattle.saves.specs.Means.{packetMeans, frameMeans}
 use Rattle.saves.specs.Replay.{fieldsMean, judgedOf, judgedFor, replayOf}
-use Rattle.saves.specs.Listing.{leading, decimal, hexDigits, pairLine, settingLine, endLine, textFor}
+use Rattle.listed.specs.Listing.{leading, decimal, hexDigits, pairLine, settingLine, endLine, textFor}
 use Rattle.bench_list.specs.List.{BenchList, ReadsPastEnd}
 
 sized : (m : Memory) → length (m .eeprom) ≡ 65536 → length (m .settings) ≤ 65536 → wronglySized m ≡ false

@@ -16,12 +16,12 @@ use Rattle.commands.specs.Decode.{commandOf}
 use Rattle.commands.specs.declared.Commands.the-variants.{Read, FirLoadData, ReadMemory}
 use Rattle.responses.specs.Decode.{responseOf}
 use Rattle.responses.specs.declared.Responses.the-variants.{MemoryData}
-use Rattle.device.specs.Memory.{Memory, memory}
+use Rattle.processor.specs.Memory.{Memory, memory}
 use Rattle.device.specs.Execute.{executedRecord}
-use Rattle.device.specs.declared.Device.{Device}
+use Rattle.processor.specs.declared.Device.{Device}
 use Rattle.saves.specs.Save.{saveOf}
 use Rattle.saves.specs.Replay.{replayOf}
-use Rattle.saves.specs.Listing.{listedInto}
+use Rattle.listed.specs.Listing.{listedInto}
 
 -- "For bare E = 2, S = 1"
 abbrev pub bare : Memory

@@ -40,7 +40,7 @@ impl Commands {
 fn command_of(packet: &[u8]) -> Parsed
     ensures { λ r. ⌜ parsed r ≡ commandOf (now (packet .entry)) ⌝ }
 {
-    if packet::LONGEST < packet.len() {
+    if packet::LONGEST_PACKET < packet.len() {
         return Parsed::Refused(refusal::TOO_LONG);
     }
     if packet.len() < 1 {
@@ -254,7 +254,7 @@ fn parse_set_volume(p: &[u8]) -> Parsed
 fn values_at(p: &[u8]) -> [Coefficient; 5]
     ensures { λ r. ⌜ r ≡ valuesAt (now (p .entry)) ⌝ }
 {
-    if packet::LONGEST < p.len() {
+    if packet::LONGEST_PACKET < p.len() {
         return no_values();
     }
     if number::byte(p, 0) != 0x30 {

@@ -13,12 +13,12 @@ use Rattle.packet.specs.Receipt.{plainOf}
 use Rattle.commands.specs.Decode.{commandOf}
 use Rattle.commands.specs.declared.Commands.{Commands}
 use Rattle.responses.specs.declared.Responses.{Responses}
-use Rattle.device.specs.Memory.{Memory, Write, store, wronglySized}
+use Rattle.processor.specs.Memory.{Memory, Write, store, wronglySized}
 use Rattle.device.specs.Effect.{Effect}
 use Rattle.device.specs.Data.{dataOf}
-use Rattle.device.specs.Named.{AllWithin}
+use Rattle.processor.specs.Named.{AllWithin}
 use Rattle.device.specs.Execute.{Left, refusing, ifSized, effectIn, answerInto, stored, answeredInto, recorded, commandInto, executedInto, executedRecord, packetInto, receivedInto}
-use Rattle.device.specs.declared.Device.{Device}
+use Rattle.processor.specs.declared.Device.{Device}
 use Rattle.device.proofs.Effects.{within}
 
 -- the command's effect, and what is left

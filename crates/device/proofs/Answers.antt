@@ -7,7 +7,7 @@ use lib.ListN.{length, take, drop, length-append}
 use lib.Seq.{take-at}
 use Rattle.octets.specs.Outcome.{Outcome}
 use Rattle.octets.specs.Over.{over}
-use Rattle.device.specs.Memory.{Memory, Write}
+use Rattle.processor.specs.Memory.{Memory, Write}
 use Rattle.device.specs.Execute.{Left, stored}
 
 pub settled : (ws : List Write) (m : Memory) (answer : Outcome ℕ × List ℕ) {w r : Outcome ℕ} {out : List ℕ} {n : Memory} → _≡_ {A = Outcome ℕ × List ℕ} (w, out) answer → _≡_ {A = Outcome ℕ × Memory} (r, n) (stored ws m w)

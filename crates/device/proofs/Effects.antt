@@ -19,10 +19,10 @@ use Rattle.commands.specs.declared.Commands.{Commands}
 use Rattle.commands.specs.declared.Commands.the-variants.{ReadHardwareId, ReadFloats, WriteMemory, ReadMemory, SetConfig, SetSource, SetMute, SetVolume, WriteBiquad, WriteBiquadBypass, Read, Write as WriteCommand, FirLoadStart, FirLoadData, FirLoadEnd, DiracBypass, BulkLoad, BulkLoadFilterData, Unk07, SwitchMux, Unknown}
 use Rattle.responses.specs.declared.Responses.{Responses}
 use Rattle.responses.specs.declared.Responses.the-variants.{Ack}
-use Rattle.device.specs.Memory.{bytes, word}
+use Rattle.processor.specs.Memory.{bytes, word}
 use Rattle.device.specs.Effect.{Effect, effect, tellsOf, readMemory, readFloats, writeMemory, writeWord, setByte, effectOf}
-use Rattle.device.specs.Named.{AllWithin}
-use Rattle.device.specs.declared.Device.{Device}
+use Rattle.processor.specs.Named.{AllWithin}
+use Rattle.processor.specs.declared.Device.{Device}
 
 module _ (e s : ℕ) where
   abbrev Lies : Outcome Effect → Type 0

@@ -1,15 +1,7 @@
-pub mod Written
 pub mod Words
-pub mod Stores
 pub mod Payload
 pub mod Answers
-pub mod Fills
-pub mod Meters
 pub mod Determined
 pub mod Refusals
-pub mod Tallies
-pub mod Named
 pub mod Effects
 pub mod Accepted
-pub mod Said
-pub mod Counts

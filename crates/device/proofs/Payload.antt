@@ -15,11 +15,6 @@ use Rattle.octets.proofs.Overlay.{put-over, put-rest, length-over}
 use Rattle.device.specs.Effect.{takenOf}
 use Rattle.device.specs.Data.{memoryPart, wordBytes}
 
--- nothing written
-pub over-nothing : (l : List ℕ) → l ≡ over [] l
-unfolding over
-over-nothing l = refl
-
 -- what is found at a place is at most its length
 pub found-le : (l : List ℕ) (a k : ℕ) {w : List ℕ} → w ≡ partOf l (placeAt a k) → length w ≤ k
 unfolding partOf

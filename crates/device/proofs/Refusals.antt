@@ -1,32 +1,26 @@
 -- "a refusal changes no processor memory and no lent output": one statement for each entry point.
 use Prim.Native.Nat.{ℕ}
-use mathlib.Core.Path.{_≡_, refl, sym}
+use mathlib.Core.Path.{_≡_, refl}
 use mathlib.Core.Bool.{Bool, true, false}
 use mathlib.Core.List.{List}
-use lib.ListN.{length}
 use Rattle.octets.specs.Outcome.{Outcome, accepted, refused}
 use Rattle.octets.specs.Choice.{pick}
 use Rattle.octets.specs.Over.{settle}
-use Rattle.octets.proofs.Choosing.{either-lt, either-eq, refused-accepted}
+use Rattle.octets.proofs.Choosing.{either-lt, accepted-refused}
 use Rattle.fields.specs.Row.{encodedOf}
 use Rattle.commands.specs.Decode.{commandOf}
 use Rattle.commands.specs.declared.Commands.{Commands}
 use Rattle.packet.specs.Receipt.{plainOf}
 use Rattle.responses.specs.Encode.{rowOf}
-use Rattle.device.specs.Memory.{Memory, wronglySized}
+use Rattle.processor.specs.Memory.{Memory, wronglySized}
 use Rattle.device.specs.Effect.{Effect}
 use Rattle.device.specs.Data.{dataOf}
-use Rattle.device.specs.Calls.{writeBytes, setTimestamp}
-use Rattle.device.specs.Create.{bareOf, bareMemory, newOf, newMemory, anyBeyond}
 use Rattle.device.specs.Execute.{Left, stored, refusing, ifSized, effectIn, formOf, answeredInto, recorded, commandInto, executedInto, executedRecord, packetInto, receivedInto}
-use Rattle.device.specs.declared.Device.{Device}
+use Rattle.processor.specs.declared.Device.{Device}
 
 -- what is left by a refusal
 abbrev pub Kept : {A : Type 0} → Memory → List ℕ → Left A → Type 0
 Kept m out left = (k : ℕ) → left .0 ≡ refused k → (left .1 ≡ m) × (left .2 ≡ out)
-
-accepted-refused : {A : Type 0} {a : A} {k : ℕ} → accepted a ≡ refused k → ⊥
-accepted-refused e = refused-accepted (sym e)
 
 module _ (m : Memory) (out : List ℕ) where
   kept-refusing : {A B : Type 0} (o : Outcome A) (next : A → Left B) → ((a : A) → Kept m out (next a)) → Kept m out (refusing m out o next)
@@ -59,31 +53,3 @@ module _ (m : Memory) (out : List ℕ) where
 
   pub executed-kept : (d : Device) (c : Commands) (p : List ℕ) → Kept m out (executedRecord d c p m out)
   executed-kept d c p = kept-sized _ (kept-refusing (effectIn d p m c) (recorded m out) (λ e j g. absurd (accepted-refused g)))
-
--- the calls on the EEPROM alone, and the makers of devices
-abbrev pub KeptAlone : {A B : Type 0} → B → Outcome A × B → Type 0
-KeptAlone before left = (k : ℕ) → left .0 ≡ refused k → left .1 ≡ before
-
-pub written-kept : (a : ℕ) (bytes e : List ℕ) → KeptAlone e (writeBytes a bytes e)
-written-kept a bytes e =
-    either-lt (KeptAlone e) _ _ _ _ (λ h k g. refl) (λ h. either-lt (KeptAlone e) _ _ _ _ (λ j k g. refl) (λ j k g. absurd (accepted-refused g)))
-
-pub stamped-kept : (value : ℕ) (e : List ℕ) → KeptAlone e (setTimestamp value e)
-stamped-kept value e =
-    either-lt (KeptAlone e) _ _ _ _ (λ h k g. refl)
-    (λ h. either-lt (KeptAlone e) _ _ _ _ (λ j k g. refl) (λ j. either-lt (KeptAlone e) _ _ _ _ (λ i k g. refl) (λ i k g. absurd (accepted-refused g))))
-
-pub bare-kept : (d : Device) (m : Memory) → KeptAlone m (bareOf d m)
-bare-kept d m = go (wronglySized m)
-  where
-    go : (b : Bool) → KeptAlone m (pick b (refused 14, m) (accepted d, bareMemory m))
-    go true = λ k g. refl
-    go false = λ k g. absurd (accepted-refused g)
-
-pub new-kept : (d : Device) (meters : List ℕ) (m : Memory) → KeptAlone m (newOf d meters m)
-new-kept d meters m =
-    either-eq (KeptAlone m) _ _ _ _ (λ h. either-lt (KeptAlone m) _ _ _ _ (λ j k g. refl) (λ j. go (anyBeyond (length (m .settings)) meters))) (λ h k g. refl)
-  where
-    go : (b : Bool) → KeptAlone m (pick b (refused 7, m) (accepted d, newMemory (d .«dsp_version») meters m))
-    go true = λ k g. refl
-    go false = λ k g. absurd (accepted-refused g)

@@ -6,7 +6,7 @@ use Rattle.octets.specs.Number.{littleBytes}
 use Rattle.octets.specs.Place.{placeAt, partOf}
 use Rattle.responses.specs.declared.Responses.{Responses}
 use Rattle.responses.specs.declared.Responses.the-variants.{Ack, Read, MemoryData, FloatData, HardwareId, FirLoadSize, ConfigChanged, Unk02, Unknown}
-use Rattle.device.specs.Memory.{Memory}
+use Rattle.processor.specs.Memory.{Memory}
 use Rattle.device.specs.Effect.{takenOf}
 
 -- "only 65,535 - addr bytes come from EEPROM and 0xFF fills up"

@@ -1,30 +1,22 @@
 -- What the enums of effect.rt stand for.
 use Prim.Native.Nat.{ℕ, _*_}
-use mathlib.Core.List.{List, [], _∷_}
+use mathlib.Core.List.{List}
 use Rattle.octets.specs.Outcome.{Outcome, accepted, refused}
-use Rattle.octets.specs.Place.{partOf}
 use Rattle.responses.specs.declared.Responses.{Responses}
 use Rattle.responses.specs.declared.Responses.the-variants.{Ack, Read, MemoryData, FloatData, HardwareId, FirLoadSize, ConfigChanged, Unk02, Unknown}
-use Rattle.device.specs.Memory.{Write, bytes, word}
+use Rattle.processor.specs.Change.{writesIn}
 use Rattle.device.specs.Effect.{Effect, effect}
-use Rattle.device.specs.declared.effect.Write.{Write as Stores}
-use Rattle.device.specs.declared.effect.Write.the-variants.{Nothing, Byte, Bytes, Word}
+use Rattle.processor.specs.declared.write.Change.{Change}
 use Rattle.device.specs.declared.effect.Decided.{Decided}
 use Rattle.device.specs.declared.effect.Decided.the-variants.{Does, Refused}
 
 -- p is the command's payload
-abbrev pub writesOf : List ℕ → Stores → List Write
-writesOf p Nothing = []
-writesOf p (Byte a value) = bytes a (value ∷ []) ∷ []
-writesOf p (Bytes a place) = bytes a (partOf p place) ∷ []
-writesOf p (Word a value) = word a value ∷ []
-
 abbrev pub decided : List ℕ → Decided → Outcome Effect
-decided p (Does d) = accepted (effect (d .response) (writesOf p (d .write)))
+decided p (Does d) = accepted (effect (d .response) (writesIn p (d .change)))
 decided p (Refused k) = refused k
 
-abbrev pub does : Responses → Stores → Decided
-does response write = Does (record { response = response; write = write })
+abbrev pub does : Responses → Change → Decided
+does response change = Does (record { response = response; change = change })
 
 -- how long the payload of an answer is at most
 abbrev pub dataLength : Responses → ℕ

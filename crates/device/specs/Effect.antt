@@ -23,8 +23,8 @@ use Rattle.commands.specs.declared.Commands.the-variants.{ReadHardwareId, ReadF
 use Rattle.responses.specs.declared.Responses.{Responses}
 use Rattle.responses.specs.declared.Responses.the-variants.{Ack, Read as ReadResponse, MemoryData, FloatData, HardwareId, FirLoadSize, ConfigChanged, Unk02}
 use Rattle.responses.specs.declared.Values.the-variants.{One}
-use Rattle.device.specs.Memory.{Write, bytes, word}
-use Rattle.device.specs.declared.Device.{Device}
+use Rattle.processor.specs.Memory.{Write, bytes, word}
+use Rattle.processor.specs.declared.Device.{Device}
 
 pub record Effect : Type 0 where
   pub response : Responses

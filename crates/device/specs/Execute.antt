@@ -16,10 +16,10 @@ use Rattle.commands.specs.Decode.{commandOf}
 use Rattle.commands.specs.declared.Commands.{Commands}
 use Rattle.responses.specs.Encode.{rowOf}
 use Rattle.responses.specs.declared.Responses.{Responses}
-use Rattle.device.specs.Memory.{Memory, Write, store, wronglySized}
+use Rattle.processor.specs.Memory.{Memory, Write, store, wronglySized}
 use Rattle.device.specs.Effect.{Effect, effectOf}
 use Rattle.device.specs.Data.{dataOf}
-use Rattle.device.specs.declared.Device.{Device}
+use Rattle.processor.specs.declared.Device.{Device}
 use Rattle.device.specs.declared.execute.Executed.{Executed}
 use Rattle.device.specs.declared.execute.Executed.the-variants.{Response, Refused}
 

@@ -1,4 +1,4 @@
-// What a command would do: its answer, and at most one write. Nothing is stored here.
+// What a command would do: its answer, and at most one change of the memories. Nothing is stored here.
 ghost use mathlib.Core.Path.{_≡_};
 ghost use mathlib.Core.Bool.{false};
 ghost use mathlib.Core.List.{List};
@@ -8,11 +8,9 @@ ghost use lib.ListN.{length};
 ghost use Rattle.octets.specs.Number.{littleAt};
 ghost use Rattle.fields.specs.Value.{valueBytes, valueOutside};
 ghost use Rattle.responses.specs.declared.Responses.the-variants.{FirLoadSize};
-ghost use Rattle.device.specs.declared.effect.Write.the-variants.{Nothing};
+ghost use Rattle.processor.specs.declared.write.Change.the-variants.{Nothing};
 ghost use Rattle.device.specs.Decided.{decided, does, dataLength, answerLength};
 ghost use Rattle.device.specs.Effect.{effectOf, takenOf, identityOf, readingOf, readMemory, writeMemory, readFloats, writeWord, setByte};
-use crate::Device;
-use crate::MOST;
 use commands::Commands;
 use facts::HardwareId;
 use facts::eeprom::MASTER_VOLUME;
@@ -25,6 +23,9 @@ use numbers::fixed_point::FixedPoint;
 use octets::Place;
 use octets::number;
 use octets::refusal;
+use processor::Device;
+use processor::LARGEST;
+use processor::write::Change;
 use responses::Responses;
 use responses::Responses::Ack;
 use responses::Responses::ConfigChanged;
@@ -33,17 +34,9 @@ use responses::Values;
 use views::floats::FloatView;
 use views::memory::MemoryView;
 
-// What is stored, and where. Bytes stand in the command's payload.
-pub enum Write {
-    Nothing,
-    Byte { addr: u16, value: u8 },
-    Bytes { addr: u16, data: Place },
-    Word { addr: u32, value: u32 },
-}
-
 pub struct Effect {
     pub response: Responses,
-    pub write: Write,
+    pub change: Change,
 }
 
 // What a command does, or the number of its refusal.
@@ -89,7 +82,7 @@ fn tells(response: Responses) -> Decided
 {
     Decided::Does(Effect {
         response,
-        write: Write::Nothing,
+        change: Change::Nothing,
     })
 }
 
@@ -125,10 +118,10 @@ pub fn taken(addr: u16, size: usize) -> usize
     ensures { λ r. ⌜ (r ≡ takenOf addr size) × (r ≤ size) ⌝ }
 {
     let addr = addr as usize;
-    if size <= MOST - addr {
+    if size <= LARGEST - addr {
         return size;
     }
-    MOST - 1 - addr
+    LARGEST - 1 - addr
 }
 
 fn read_memory(base: u16, size: u8, e: usize) -> Decided
@@ -167,7 +160,7 @@ fn write_memory(addr: u16, data: Place, payload: &[u8], e: usize) -> Decided
     }
     Decided::Does(Effect {
         response: Ack,
-        write: Write::Bytes { addr, data },
+        change: Change::Bytes { addr, data },
     })
 }
 
@@ -177,7 +170,7 @@ fn set_byte(addr: u16, value: u8, e: usize, response: Responses) -> Decided
     if (addr as usize) < e {
         return Decided::Does(Effect {
             response,
-            write: Write::Byte { addr, value },
+            change: Change::Byte { addr, value },
         });
     }
     Decided::Refused(refusal::OUTSIDE)
@@ -197,7 +190,7 @@ fn write_word(addr: u32, value: Value, payload: &[u8], s: usize) -> Decided
         let word = word_of(value, payload);
         return Decided::Does(Effect {
             response: Ack,
-            write: Write::Word { addr, value: word },
+            change: Change::Word { addr, value: word },
         });
     }
     tells(Ack)

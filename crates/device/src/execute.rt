@@ -4,17 +4,14 @@ ghost use lib.ListN.{length};
 ghost use Prim.Native.Nat.{_+_, _*_, _≤_};
 ghost use Rattle.octets.specs.Outcome.{written};
 ghost use Rattle.octets.specs.Over.{over};
-ghost use Rattle.device.specs.Memory.{memory, store as storeAll};
-ghost use Rattle.device.specs.Decided.{writesOf, dataLength};
+ghost use Rattle.processor.specs.Memory.{memory};
+ghost use Rattle.processor.specs.Change.{writesIn};
+ghost use Rattle.device.specs.Decided.{dataLength};
 ghost use Rattle.device.specs.Data.{dataOf, memoryPart, wordsPart};
 ghost use Rattle.device.specs.Execute.{executed, executedRecord, executedInto, commandInto, answerInto, stored, packetInto, receivedInto};
-use crate::Device;
 use crate::effect::Decided;
-use crate::effect::Write;
 use crate::effect::decide;
 use crate::effect::taken;
-use crate::put_bytes;
-use crate::wrong_sizes;
 use commands::Commands;
 use commands::decode::Parsed;
 use octets::Place;
@@ -22,6 +19,10 @@ use octets::Written;
 use octets::number;
 use octets::refusal;
 use packet::Received;
+use processor::Device;
+use processor::too_large;
+use processor::write::Change;
+use processor::write::store;
 use responses::Responses;
 
 // The most bytes that an answer's payload has: 255 words.
@@ -43,7 +44,7 @@ pub fn receive(
 ) -> Written
     ensures { λ r. ⌜ (written r, memory (now (eeprom .exit)) (now (settings .exit)), now (out .exit)) ≡ receivedInto device (now (frame .entry)) (memory (now (eeprom .entry)) (now (settings .entry))) (now (out .entry)) ⌝ }
 {
-    if wrong_sizes(eeprom.len(), settings.len()) {
+    if too_large(eeprom.len(), settings.len()) {
         return Written::Refused(refusal::WRONG_SIZES);
     }
     match packet::unframe(frame) {
@@ -85,7 +86,7 @@ pub fn execute_into(
 ) -> Written
     ensures { λ r. ⌜ (written r, memory (now (eeprom .exit)) (now (settings .exit)), now (out .exit)) ≡ executedInto device command (now (payload .entry)) (memory (now (eeprom .entry)) (now (settings .entry))) (now (out .entry)) ⌝ }
 {
-    if wrong_sizes(eeprom.len(), settings.len()) {
+    if too_large(eeprom.len(), settings.len()) {
         return Written::Refused(refusal::WRONG_SIZES);
     }
     answer_into(device, command, payload, false, eeprom, settings, out)
@@ -102,15 +103,15 @@ pub fn execute(
 ) -> Executed
     ensures { λ r. ⌜ (executed r, memory (now (eeprom .exit)) (now (settings .exit)), now («data» .exit)) ≡ executedRecord device command (now (payload .entry)) (memory (now (eeprom .entry)) (now (settings .entry))) (now («data» .entry)) ⌝ }
 {
-    if wrong_sizes(eeprom.len(), settings.len()) {
+    if too_large(eeprom.len(), settings.len()) {
         return Executed::Refused(refusal::WRONG_SIZES);
     }
     match decide(device, command, payload, eeprom.len(), settings.len()) {
         Decided::Does(effect) => {
             let response = effect.response;
-            let write = effect.write;
+            let change = effect.change;
             put_data(response, &eeprom[..], &settings[..], data);
-            store(write, payload, eeprom, settings);
+            store(change, payload, eeprom, settings);
             Executed::Response(response)
         }
         Decided::Refused(k) => Executed::Refused(k),
@@ -132,11 +133,11 @@ fn answer_into(
     match decide(device, command, payload, eeprom.len(), settings.len()) {
         Decided::Does(effect) => {
             let response = effect.response;
-            let write = effect.write;
+            let change = effect.change;
             let mut data = [0u8; LONGEST];
             let n = put_data(response, &eeprom[..], &settings[..], &mut data);
             let answer = write_answer(response, &data[0..n], framed, out);
-            store_if(answer, write, payload, eeprom, settings)
+            store_if(answer, change, payload, eeprom, settings)
         }
         Decided::Refused(k) => Written::Refused(k),
     }
@@ -209,29 +210,18 @@ fn write_answer(response: Responses, payload: &[u8], framed: bool, out: &mut [u8
 // Stores where the answer was written.
 fn store_if(
     answer: Written,
-    write: Write,
+    change: Change,
     payload: &[u8],
     eeprom: &mut [u8],
     settings: &mut [u32],
 ) -> Written
-    ensures { λ r. ⌜ (written r, memory (now (eeprom .exit)) (now (settings .exit))) ≡ stored (writesOf (now (payload .entry)) write) (memory (now (eeprom .entry)) (now (settings .entry))) (written answer) ⌝ }
+    ensures { λ r. ⌜ (written r, memory (now (eeprom .exit)) (now (settings .exit))) ≡ stored (writesIn (now (payload .entry)) change) (memory (now (eeprom .entry)) (now (settings .entry))) (written answer) ⌝ }
 {
     match answer {
         Written::Bytes(n) => {
-            store(write, payload, eeprom, settings);
+            store(change, payload, eeprom, settings);
             Written::Bytes(n)
         }
         Written::Refused(k) => Written::Refused(k),
-    }
-}
-
-fn store(write: Write, payload: &[u8], eeprom: &mut [u8], settings: &mut [u32])
-    ensures { λ _. ⌜ memory (now (eeprom .exit)) (now (settings .exit)) ≡ storeAll (writesOf (now (payload .entry)) write) (memory (now (eeprom .entry)) (now (settings .entry))) ⌝ }
-{
-    match write {
-        Write::Nothing => {}
-        Write::Byte { addr, value } => put_bytes(addr, &[value], eeprom),
-        Write::Bytes { addr, data } => put_bytes(addr, octets::part(payload, data), eeprom),
-        Write::Word { addr, value } => octets::put_word(addr as usize, value, settings),
     }
 }

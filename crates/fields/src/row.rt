@@ -166,7 +166,7 @@ fn settled(row: [Cell; 8], payload: &[u8]) -> Written
         return Written::Refused(refusal::OUTSIDE);
     }
     let n = row_len(row, payload);
-    if packet::LONGEST < n {
+    if packet::LONGEST_PACKET < n {
         return Written::Refused(refusal::TOO_LONG);
     }
     Written::Bytes(n)
@@ -230,8 +230,8 @@ pub fn write(row: [Cell; 8], payload: &[u8], out: &mut [u8]) -> Written
     }
 }
 
-// Writes the frame of a row's packet: the packet to out from its second byte onward, then the
-// checksum.
+// Writes the frame of a row's packet: the packet to out from its second byte onward, which is then
+// closed.
 pub fn frame(row: [Cell; 8], payload: &[u8], out: &mut [u8]) -> Written
     ensures { λ r. ⌜ (written r, now (out .exit)) ≡ frameInto (now (payload .entry)) (fieldsOf row) (now (out .entry)) ⌝ }
 {
@@ -240,12 +240,8 @@ pub fn frame(row: [Cell; 8], payload: &[u8], out: &mut [u8]) -> Written
             if out.len() < n + 2 {
                 return Written::Refused(refusal::NO_ROOM);
             }
-            let end = n + 1;
-            octets::put(&[end as u8], out);
             put_row(row, payload, &mut out[1..]);
-            let sum = packet::checksum(&out[0..end]);
-            octets::put(&[sum], &mut out[end..]);
-            Written::Bytes(n + 2)
+            packet::close(n, out)
         }
         Written::Refused(k) => Written::Refused(k),
     }

@@ -8,11 +8,11 @@ use lib.ListN.{length}
 use Rattle.octets.specs.Number.{bigBytes}
 use Rattle.octets.specs.Outcome.{Outcome, accepted, refused, onAccepted}
 use Rattle.facts.specs.Eeprom.{serial}
-use Rattle.device.specs.Memory.{Memory, Write, bytes, word, put, store}
-use Rattle.device.specs.Named.{orBefore, Within, AllWithin}
-use Rattle.device.specs.declared.Device.{Device}
-use Rattle.device.proofs.Stores.{length-put}
-use Rattle.device.proofs.Named.{byte-after, word-after}
+use Rattle.processor.specs.Memory.{Memory, Write, bytes, word, put, store}
+use Rattle.processor.specs.Named.{orBefore, Within, AllWithin}
+use Rattle.processor.specs.declared.Device.{Device}
+use Rattle.processor.proofs.Stores.{length-put}
+use Rattle.processor.proofs.Named.{byte-after, word-after}
 use Rattle.saves.specs.Save.{savedInto}
 use Rattle.history.specs.History.{Place, byte, setting, content, puts, Call, bare, new, receive, execute, execute-into, write-u8, write-u16, write-u32, set-serial, set-timestamp, replay, save, answer, step, named, taken, history, later, lastWrite, last}
 use Rattle.history.specs.Restores.{SameSizes}

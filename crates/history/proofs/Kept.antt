@@ -4,8 +4,8 @@ use mathlib.Core.List.{List, [], _∷_}
 use lib.ListN.{length}
 use Rattle.octets.specs.Outcome.{Outcome, accepted, refused}
 use Rattle.octets.specs.Number.{at}
-use Rattle.device.specs.Memory.{Memory}
-use Rattle.device.specs.declared.Device.{Device}
+use Rattle.processor.specs.Memory.{Memory}
+use Rattle.processor.specs.declared.Device.{Device}
 use Rattle.saves.specs.Writes.{Words}
 use Rattle.history.specs.History.{Call, setting, answer, step, named, ifAccepted, taken, history, lastWrite}
 use Rattle.history.proofs.History.{step-at}

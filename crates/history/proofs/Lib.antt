@@ -1,6 +1,7 @@
 pub mod Steps
 pub mod Makers
 pub mod Octets
+pub mod Codec
 pub mod Replays
 pub mod History
 pub mod Turns

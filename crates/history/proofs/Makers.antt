@@ -9,11 +9,11 @@ use Rattle.octets.specs.Refusals.{outside, wrongSizes}
 use Rattle.octets.specs.Outcome.{Outcome, accepted, refused, onAccepted}
 use Rattle.octets.specs.Choice.{pick}
 use Rattle.octets.proofs.Choosing.{either-lt, either-eq}
-use Rattle.device.specs.Memory.{Memory, memory, Write, store, wronglySized}
-use Rattle.device.specs.Named.{Within, AllWithin}
-use Rattle.device.specs.Create.{bareMemory, bareOf, newWrites, anyBeyond, withMeters, newMemory, newOf}
-use Rattle.device.specs.declared.Device.{Device}
-use Rattle.device.proofs.Stores.{length-put, length-store}
+use Rattle.processor.specs.Memory.{Memory, memory, Write, store, wronglySized}
+use Rattle.processor.specs.Named.{Within, AllWithin}
+use Rattle.processor.specs.Create.{bareMemory, bareOf, newWrites, anyBeyond, withMeters, newMemory, newOf}
+use Rattle.processor.specs.declared.Device.{Device}
+use Rattle.processor.proofs.Stores.{length-put, length-store}
 use Rattle.saves.specs.Save.{blocks}
 use Rattle.saves.specs.Writes.{each, blockWrite, wordWrite, writesFor}
 use Rattle.saves.proofs.Rising.{stored-whole}

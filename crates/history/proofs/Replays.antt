@@ -10,14 +10,14 @@ use Rattle.octets.specs.Choice.{pick, ifLt}
 use Rattle.octets.specs.Number.{Bytes}
 use Rattle.octets.proofs.Choosing.{either-lt, either-eq}
 use Rattle.octets.proofs.Outcomes.{then-both, same-value}
-use Rattle.device.specs.Memory.{Memory, Write, wronglySized}
-use Rattle.device.specs.Named.{Within, AllWithin}
-use Rattle.device.specs.declared.Device.{Device}
+use Rattle.processor.specs.Memory.{Memory, Write, wronglySized}
+use Rattle.processor.specs.Named.{Within, AllWithin}
+use Rattle.processor.specs.declared.Device.{Device}
 use Rattle.device.proofs.Effects.{within}
 use Rattle.saves.specs.Stream.{lengthOf, contentOf, behind, tagOf, Stream, streamUpTo, streamOf}
 use Rattle.saves.specs.Means.{frameMeans, allMean}
 use Rattle.saves.specs.Replay.{Save, judgedFor, storing, replayOf}
-use Rattle.saves.proofs.Codec.{part-octets, frame-command}
+use Rattle.history.proofs.Codec.{part-octets, frame-command}
 use Rattle.saves.proofs.Storing.{judged-means}
 use Rattle.history.specs.History.{AllBytes, frameNames, framesNames, framesIn}
 use Rattle.history.proofs.Octets.{behind-octets}

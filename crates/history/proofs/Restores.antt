@@ -9,8 +9,8 @@ use lib.ListN.{length, take}
 use Rattle.octets.specs.Outcome.{accepted}
 use Rattle.octets.specs.Over.{over}
 use Rattle.octets.proofs.Choosing.{above}
-use Rattle.device.specs.Memory.{Memory, wronglySized}
-use Rattle.device.specs.declared.Device.{Device}
+use Rattle.processor.specs.Memory.{Memory, wronglySized}
+use Rattle.processor.specs.declared.Device.{Device}
 use Rattle.saves.specs.Save.{saveOf, room, savedInto}
 use Rattle.saves.specs.Writes.{Words}
 use Rattle.saves.proofs.Saved.{length-save, in-front}

@@ -9,13 +9,13 @@ use lib.ListN.{length, take, drop}
 use Rattle.octets.specs.Number.{at, Bytes, bigBytes, littleBytes}
 use Rattle.octets.specs.Place.{placeAt, partOf}
 use Rattle.packet.specs.Frame.{frameOf}
-use Rattle.device.specs.Memory.{Memory}
-use Rattle.device.specs.declared.Device.{Device}
+use Rattle.processor.specs.Memory.{Memory}
+use Rattle.processor.specs.declared.Device.{Device}
 use Rattle.saves.specs.Save.{memoryPacket, wordPacket, blocks}
 use Rattle.saves.specs.Writes.{Words, each, framesFor, writesFor}
 use Rattle.saves.proofs.Saved.{memory-packet, length-memory-packet, word-packet, length-word-packet}
 use Rattle.saves.proofs.Writes.{saved-writes}
-use Rattle.saves.proofs.Codec.{part-octets}
+use Rattle.history.proofs.Codec.{part-octets}
 use Rattle.history.specs.History.{AllBytes, framesNames}
 use Rattle.history.specs.Restores.{Sized}
 use Rattle.history.proofs.Octets.{one-more, both-octets, big-octets, little-octets, frame-octets}

@@ -12,12 +12,12 @@ use Rattle.octets.proofs.Overlay.{length-over-at, put-inside}
 use Rattle.octets.proofs.InBytes.{length-big}
 use Rattle.facts.specs.Eeprom.{timestamp, timestamp2x4}
 use Rattle.commands.specs.declared.Commands.{Commands}
-use Rattle.device.specs.Memory.{Memory, memory, Write, bytes, putAt, store}
+use Rattle.processor.specs.Memory.{Memory, memory, Write, bytes, putAt, store}
 use Rattle.device.specs.Effect.{effectOf}
-use Rattle.device.specs.Named.{AllWithin}
-use Rattle.device.specs.Calls.{writeBytes, setTimestamp}
+use Rattle.processor.specs.Named.{AllWithin}
+use Rattle.processor.specs.Calls.{writeBytes, setTimestamp}
 use Rattle.device.specs.Execute.{Left, receivedInto, executedInto, executedRecord}
-use Rattle.device.specs.declared.Device.{Device}
+use Rattle.processor.specs.declared.Device.{Device}
 use Rattle.device.proofs.Accepted.{Does, Received, received-does, executed-into-does, executed-does}
 use Rattle.device.proofs.Refusals.{Kept, received-kept, executed-into-kept, executed-kept}
 use Rattle.history.specs.History.{onBoth, writesOf, frameNames, ifAccepted}

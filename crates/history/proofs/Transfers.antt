@@ -11,7 +11,7 @@ use Rattle.octets.specs.Choice.{pick, ifLt}
 use Rattle.octets.specs.Over.{over, into}
 use Rattle.octets.proofs.Choosing.{below, above, same, either-lt, refused-accepted}
 use Rattle.octets.proofs.Outcomes.{same-value}
-use Rattle.device.specs.Memory.{Memory, wronglySized}
+use Rattle.processor.specs.Memory.{Memory, wronglySized}
 use Rattle.saves.specs.Save.{saveOf, savedInto}
 use Rattle.saves.specs.Replay.{replayOf}
 use Rattle.saves.specs.Writes.{Words}

@@ -16,12 +16,12 @@ use Rattle.octets.proofs.Outcomes.{then-both, same-value}
 use Rattle.packet.specs.Frame.{frameOf}
 use Rattle.fields.specs.Row.{packetOf, anyOf, encodedOf}
 use Rattle.responses.specs.declared.Responses.the-variants.{Ack}
-use Rattle.device.specs.Memory.{Memory, Write, put, store, wronglySized}
+use Rattle.processor.specs.Memory.{Memory, Write, put, store, wronglySized}
 use Rattle.device.specs.Execute.{answerInto, receivedInto}
-use Rattle.device.specs.declared.Device.{Device}
+use Rattle.processor.specs.declared.Device.{Device}
 use Rattle.saves.specs.Means.{frameMeans, allMean}
 use Rattle.saves.specs.Replay.{Save, judgedFor, storing, replayOf}
-use Rattle.saves.proofs.Codec.{Sends, frame-command}
+use Rattle.history.proofs.Codec.{Sends, frame-command}
 use Rattle.saves.proofs.Storing.{judged-means}
 use Rattle.history.specs.History.{history, AllBytes, inTurn, AllAccepted, framesIn}
 use Rattle.history.proofs.Replays.{frames-octets}

@@ -21,11 +21,11 @@ use Rattle.commands.specs.declared.Commands.{Commands}
 use Rattle.commands.specs.declared.Commands.the-variants.{ReadHardwareId, ReadFloats, WriteMemory, ReadMemory, SetConfig, SetSource, SetMute, SetVolume, WriteBiquad, WriteBiquadBypass, Read, Write as WriteCommand, FirLoadStart, FirLoadData, FirLoadEnd, DiracBypass, BulkLoad, BulkLoadFilterData, Unk07, SwitchMux, Unknown}
 use Rattle.responses.specs.declared.Responses.{Responses}
 use Rattle.responses.specs.declared.Responses.the-variants.{Ack}
-use Rattle.device.specs.Memory.{bytes, word}
-use Rattle.device.specs.Create.{newMemory}
+use Rattle.processor.specs.Memory.{bytes, word}
+use Rattle.processor.specs.Create.{newMemory}
 use Rattle.device.specs.Effect.{Effect, effect, tellsOf, writeMemory, writeWord, setByte, effectOf}
-use Rattle.device.specs.declared.Device.{Device}
-use Rattle.saves.proofs.Codec.{part-octets}
+use Rattle.processor.specs.declared.Device.{Device}
+use Rattle.history.proofs.Codec.{part-octets}
 use Rattle.history.specs.History.{Call, bare, new, blank, receive, execute, execute-into, write-u8, write-u16, write-u32, set-serial, set-timestamp, replay, save, writesOf, AllBytes, frameNames, framesNames, framesIn, named}
 use Rattle.history.proofs.Octets.{big-octets, little-octets}
 use Rattle.history.proofs.Replays.{frames-octets}

@@ -5,17 +5,17 @@ use lib.Dec.{lit<}
 use lib.ListN.{length, replicate}
 use Rattle.octets.specs.Number.{at}
 use Rattle.octets.proofs.Choosing.{either-eq, lt-or-le}
-use Rattle.device.specs.Memory.{Memory, Write, bytes, word, putAt, memory}
-use Rattle.device.specs.Create.{withMeters}
+use Rattle.processor.specs.Memory.{Memory, Write, bytes, word, putAt, memory}
+use Rattle.processor.specs.Create.{withMeters}
 use Rattle.saves.specs.Save.{blocks}
 use Rattle.saves.specs.Writes.{Words, each, blockWrite, wordWrite, writesFor}
 use Rattle.history.specs.History.{named, setting, later, lastWrite}
 use mathlib.Core.Option.{Option, none, some}
-use Rattle.device.specs.Named.{orBefore, wordOf}
+use Rattle.processor.specs.Named.{orBefore, wordOf}
 use mathlib.Core.Logic.{_⊎_, inl, inr}
 use native.Mathlib.Omega.{arith}
 use Rattle.octets.proofs.Overlay.{put-outside}
-use Rattle.device.proofs.Named.{word-after}
+use Rattle.processor.proofs.Named.{word-after}
 
 abbrev pub AllWords : List Write → Type 0
 AllWords [] = Unit

@@ -13,13 +13,13 @@ use Rattle.packet.specs.Receipt.{plainOf}
 use Rattle.commands.specs.Decode.{commandOf}
 use Rattle.commands.specs.declared.Commands.{Commands}
 use Rattle.facts.specs.Eeprom.{serial, timestamp, timestamp2x4}
-use Rattle.device.specs.Memory.{Memory, memory, Write, bytes}
+use Rattle.processor.specs.Memory.{Memory, memory, Write, bytes}
 use Rattle.device.specs.Effect.{Effect, effectOf}
-use Rattle.device.specs.Named.{byteOf, wordOf}
-use Rattle.device.specs.Calls.{writeU8, writeU16, writeU32, setSerial, setTimestamp}
-use Rattle.device.specs.Create.{bareOf, newMemory, newOf}
+use Rattle.processor.specs.Named.{byteOf, wordOf}
+use Rattle.processor.specs.Calls.{writeU8, writeU16, writeU32, setSerial, setTimestamp}
+use Rattle.processor.specs.Create.{bareOf, newMemory, newOf}
 use Rattle.device.specs.Execute.{receivedInto, executedInto, executedRecord}
-use Rattle.device.specs.declared.Device.{Device}
+use Rattle.processor.specs.declared.Device.{Device}
 use Rattle.saves.specs.Save.{savedInto}
 use Rattle.saves.specs.Stream.{streamOf}
 use Rattle.saves.specs.Replay.{replayOf}

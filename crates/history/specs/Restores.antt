@@ -7,7 +7,7 @@ use Rattle.octets.specs.Refusals.{noRoom, wrongSizes}
 use Rattle.octets.specs.Outcome.{Outcome, accepted, refused}
 use Rattle.octets.specs.Choice.{pick, ifLt, ifEq}
 use Rattle.octets.specs.Over.{over}
-use Rattle.device.specs.Memory.{Memory, wronglySized}
+use Rattle.processor.specs.Memory.{Memory, wronglySized}
 use Rattle.saves.specs.Save.{saveOf, room, savedInto}
 use Rattle.saves.specs.Replay.{replayOf}
 

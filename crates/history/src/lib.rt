@@ -2,12 +2,12 @@
 // call naming it put there, and a save put back restores both memories. specs/ says it, proofs/
 // proves it of the definitions that the contracts cite; `transfer` is the theorem at work.
 ghost use mathlib.Core.Path.{_≡_};
-ghost use Rattle.device.specs.Memory.{memory};
-ghost use Rattle.responses.specs.Kind.{done};
+ghost use Rattle.processor.specs.Memory.{memory};
+ghost use Rattle.octets.specs.Outcome.{done};
 ghost use Rattle.history.specs.Restores.{transferOf};
+use octets::Done;
 use octets::Written;
 use octets::refusal;
-use responses::kind::Done;
 use saves::replay::replay;
 use saves::save::save;
 

@@ -5,7 +5,7 @@ use libc::STDOUT_FILENO;
 use octets::Written;
 
 // The input holds one byte more than is listed, so that a save that is too long is seen; the output
-// has room for every listing (crate saves, proofs/Fits.antt).
+// has room for every listing (crate listed, proofs/Fits.antt).
 fn main() {
     let mut input = [0u8; 32769];
     let mut output = [0u8; 65536];
@@ -18,7 +18,7 @@ fn run(input: &mut [u8; 32769], output: &mut [u8; 65536]) {
 
 fn print(input: &mut [u8], output: &mut [u8]) {
     let n = io::read_full(STDIN_FILENO, input);
-    match saves::listing::list(&input[0..n], output) {
+    match listed::list(&input[0..n], output) {
         Written::Bytes(len) => print_text(output, len),
         Written::Refused(number) => print_refusal(number),
     }

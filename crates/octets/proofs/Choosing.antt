@@ -1,7 +1,7 @@
 -- Choices by a test. A fact about the numbers picks the branch, so that an answer by tests is `search tests`;
 -- and an accepted answer tells how each test before it came out.
 use Prim.Native.Nat.{ℕ, _<_, _≤_}
-use mathlib.Core.Path.{_≡_, refl, subst}
+use mathlib.Core.Path.{_≡_, refl, sym, subst}
 use mathlib.Core.Logic.{_⊎_, inl, inr}
 use native.Mathlib.Decide.{decLt, ℕ-discrete}
 use native.Mathlib.Omega.{arith}
@@ -75,6 +75,9 @@ module _ {A : Type 0} (a b : ℕ) (x y z : A) (never : x ≡ z → ⊥) where
 -- so does an accepted one, where a test refuses
 pub refused-accepted : {A : Type 0} {k : ℕ} {v : A} → refused k ≡ accepted v → ⊥
 refused-accepted e = let z : _≡_ {A = ℕ} 0 1 = cc in omega arith
+
+pub accepted-refused : {A : Type 0} {a : A} {k : ℕ} → accepted a ≡ refused k → ⊥
+accepted-refused e = refused-accepted (sym e)
 
 module _ {A : Type 0} {v : A} (a b k : ℕ) (y : Outcome A) where
   pub was-above : ifLt a b (refused k) y ≡ accepted v → (b ≤ a) × (y ≡ accepted v)

@@ -4,10 +4,12 @@ use mathlib.Core.Path.{_≡_}
 use mathlib.Core.Bool.{Bool}
 use mathlib.Core.List.{List}
 use denote.Ref.{now}
-use Rattle.octets.specs.Outcome.{written}
+use Rattle.octets.specs.Outcome.{written, done}
 use Rattle.octets.specs.declared.Place.{Place}
 use Rattle.octets.specs.declared.Written.{Written}
 use Rattle.octets.specs.declared.Written.the-variants.{Bytes, Refused}
+use Rattle.octets.specs.declared.Done.{Done}
+use Rattle.octets.specs.declared.Done.the-variants.{Done as IsDone, Refused as NotDone}
 use Rattle.octets.proofs.Agree.{Fixes, agree, both}
 use Rattle.octets.proofs.put.Reads as put
 use Rattle.octets.proofs.put_word.Reads as put-word
@@ -33,6 +35,12 @@ written-once (Bytes m) (Bytes n) e = cc
 written-once (Bytes m) (Refused k) e = cc
 written-once (Refused k) (Bytes m) e = cc
 written-once (Refused j) (Refused k) e = cc
+
+pub done-once : (a b : Done) → done a ≡ done b → a ≡ b
+done-once IsDone IsDone e = cc
+done-once IsDone (NotDone k) e = cc
+done-once (NotDone k) IsDone e = cc
+done-once (NotDone j) (NotDone k) e = cc
 
 pub put-fixed : Fixes (Written × List ℕ) put.Post (λ κs answer left. (answer, now (left .1 .0)))
 put-fixed κs args a b x y p q = both written written-once (agree p q)

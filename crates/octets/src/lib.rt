@@ -17,6 +17,12 @@ pub enum Written {
     Refused(u8),
 }
 
+// What a function that only does something answers.
+pub enum Done {
+    Done,
+    Refused(u8),
+}
+
 // Writes bytes over the start of out, whole or not at all.
 pub fn put(bytes: &[u8], out: &mut [u8]) -> Written
     ensures { λ r. ⌜ (written r, now (out .exit)) ≡ into (now (bytes .entry)) (now (out .entry)) ⌝ }

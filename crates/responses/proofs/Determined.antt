@@ -6,22 +6,21 @@ use mathlib.Core.List.{List}
 use denote.Ref.{now}
 use Rattle.octets.specs.Outcome.{written}
 use Rattle.octets.specs.declared.Written.{Written}
+use Rattle.octets.specs.declared.Done.{Done}
 use Rattle.octets.proofs.Agree.{Fixes, agree, both}
-use Rattle.octets.proofs.Determined.{written-once}
+use Rattle.octets.proofs.Determined.{written-once, done-once}
 use Rattle.fields.specs.declared.value.ReadValue.{ReadValue}
 use Rattle.fields.proofs.Determined.{value-once}
 use Rattle.views.specs.declared.memory.Answer.{Answer as MemoryAnswer}
 use Rattle.views.specs.declared.floats.Answer.{Answer as FloatsAnswer}
 use Rattle.views.proofs.Determined.{byte-once, memory-once, floats-once}
 use Rattle.responses.specs.Decode.{parsed}
-use Rattle.responses.specs.Kind.{identified, done, sized}
+use Rattle.responses.specs.Kind.{identified, sized}
 use Rattle.responses.specs.Status.{Status, input, volume, flag, status}
 use Rattle.responses.specs.declared.decode.Parsed.{Parsed}
 use Rattle.responses.specs.declared.decode.Parsed.the-variants.{Response, Refused}
 use Rattle.responses.specs.declared.kind.Identified.{Identified}
 use Rattle.responses.specs.declared.kind.Identified.the-variants.{Is as IdIs, Refused as NoId}
-use Rattle.responses.specs.declared.kind.Done.{Done}
-use Rattle.responses.specs.declared.kind.Done.the-variants.{Done as IsDone, Refused as NotDone}
 use Rattle.responses.specs.declared.kind.Sized.{Sized}
 use Rattle.responses.specs.declared.kind.Sized.the-variants.{Is as SizeIs, Refused as NoSize}
 use Rattle.responses.specs.declared.status.Input.{Input}
@@ -63,12 +62,6 @@ identified-once (IdIs x) (IdIs y) e = cc
 identified-once (IdIs x) (NoId k) e = cc
 identified-once (NoId k) (IdIs y) e = cc
 identified-once (NoId j) (NoId k) e = cc
-
-pub done-once : (a b : Done) → done a ≡ done b → a ≡ b
-done-once IsDone IsDone e = cc
-done-once IsDone (NotDone k) e = cc
-done-once (NotDone k) IsDone e = cc
-done-once (NotDone j) (NotDone k) e = cc
 
 pub sized-once : (a b : Sized) → sized a ≡ sized b → a ≡ b
 sized-once (SizeIs m) (SizeIs n) e = cc

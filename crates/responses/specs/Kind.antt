@@ -10,8 +10,6 @@ use Rattle.responses.specs.declared.Responses.{Responses}
 use Rattle.responses.specs.declared.Responses.the-variants.{Ack, Read, MemoryData, FloatData, HardwareId as Identity, FirLoadSize, ConfigChanged, Unk02, Unknown}
 use Rattle.responses.specs.declared.kind.Identified.{Identified}
 use Rattle.responses.specs.declared.kind.Identified.the-variants.{Is as IdIs, Refused as IdRefused}
-use Rattle.responses.specs.declared.kind.Done.{Done}
-use Rattle.responses.specs.declared.kind.Done.the-variants.{Done as IsDone, Refused as NotDone}
 use Rattle.responses.specs.declared.kind.Sized.{Sized}
 use Rattle.responses.specs.declared.kind.Sized.the-variants.{Is as SizeIs, Refused as SizeRefused}
 
@@ -19,10 +17,6 @@ use Rattle.responses.specs.declared.kind.Sized.the-variants.{Is as SizeI
 abbrev pub identified : Identified → Outcome HardwareId
 identified (IdIs id) = accepted id
 identified (IdRefused k) = refused k
-
-abbrev pub done : Done → Outcome Unit
-done IsDone = accepted tt
-done (NotDone k) = refused k
 
 abbrev pub sized : Sized → Outcome ℕ
 sized (SizeIs n) = accepted n

@@ -22,7 +22,7 @@ impl Responses {
     pub fn from_bytes(packet: &[u8]) -> Parsed
         ensures { λ r. ⌜ parsed r ≡ responseOf (now (packet .entry)) ⌝ }
     {
-        if packet::LONGEST < packet.len() {
+        if packet::LONGEST_PACKET < packet.len() {
             return Parsed::Refused(refusal::TOO_LONG);
         }
         if packet.len() < 1 {

@@ -1,9 +1,11 @@
 // Whether a response is of a kind, and what it holds then. (Responses::is_.., into_..)
 ghost use mathlib.Core.Path.{_≡_};
+ghost use Rattle.octets.specs.Outcome.{done};
 ghost use Rattle.views.specs.View.{memoryAnswer, floatsAnswer};
-ghost use Rattle.responses.specs.Kind.{isAccepted, identified, done, sized, held};
+ghost use Rattle.responses.specs.Kind.{isAccepted, identified, sized, held};
 use crate::Responses;
 use facts::HardwareId;
+use octets::Done;
 use octets::refusal;
 use views::floats;
 use views::memory;
@@ -11,11 +13,6 @@ use views::memory;
 // A hardware id, or the number of the refusal.
 pub enum Identified {
     Is(HardwareId),
-    Refused(u8),
-}
-
-pub enum Done {
-    Done,
     Refused(u8),
 }
 

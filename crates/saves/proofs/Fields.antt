@@ -11,7 +11,7 @@ use Rattle.octets.proofs.InBytes.{length-big}
 use Rattle.octets.proofs.Parts.{part-between}
 use Rattle.packet.specs.Frame.{frameOf}
 use Rattle.packet.proofs.Frames.{length-frame}
-use Rattle.device.specs.Memory.{Memory}
+use Rattle.processor.specs.Memory.{Memory}
 use Rattle.saves.specs.Save.{field, frameField, memoryPacket, wordPacket, rising, endField, blocks, fieldsFor}
 use Rattle.saves.specs.Stream.{lengthOf, contentOf, behind, tagOf, stream, before, streamOf}
 use Rattle.saves.specs.Writes.{each, framesFor}

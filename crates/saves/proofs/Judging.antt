@@ -13,18 +13,22 @@ use Rattle.octets.specs.declared.Place.{Place}
 use Rattle.octets.proofs.Choosing.{same, other, if-of, if-eq-of, was-above, was-other}
 use Rattle.packet.specs.Frame.{checksumOf}
 use Rattle.packet.specs.Receipt.{lengthByte, packetAt, strictOf}
-use Rattle.device.specs.Memory.{Write}
+use Rattle.processor.specs.Memory.{Write}
 use Rattle.saves.specs.Stream.{contentOf, behind, tagOf, streamOf, endOf}
 use Rattle.saves.specs.Means.{packetMeans, frameMeans, allMean}
 use Rattle.saves.specs.Judged.{sound, receiptOf, packetIn}
 use Rattle.saves.specs.Replay.{fieldsMean, Save}
-use Rattle.saves.specs.declared.judge.Shape.{Shape}
+use Rattle.saves.specs.declared.shape.Shape.{Shape}
 use Rattle.saves.proofs.Streams.{stream-frame, stream-end}
 
 -- whether it is sound does not hang on what is made of it
 sound-then : {A : Type 0} (o : Outcome Unit) (a : A) → sound (andThen o (λ u. accepted a)) ≡ o
 sound-then (accepted u) a = refl
 sound-then (refused k) a = refl
+
+pub sound-of : {A B : Type 0} (f : A → B) (o : Outcome A) {p : Outcome B} → p ≡ onAccepted f o → sound p ≡ sound o
+sound-of f (accepted a) e = ap sound e
+sound-of f (refused k) e = ap sound e
 
 -- ---- fields
 -- what is left of a save, n frames having gone before

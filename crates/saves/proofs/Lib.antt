@@ -1,13 +1,10 @@
 pub mod Streams
 pub mod Judging
+pub mod Meaning
 pub mod Storing
 pub mod Saved
 pub mod Fields
 pub mod Writes
 pub mod Rising
 pub mod Round
-pub mod Codec
-pub mod Text
-pub mod Lines
-pub mod Fits
 pub mod Determined

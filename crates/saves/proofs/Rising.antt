@@ -8,7 +8,7 @@ use lib.ListN.{length, take, drop, length-append, length-take, length-drop, drop
 use lib.Seq.{take-at, drop-at, drop-drop, drop-cons, take-add, take-all, length-take-le}
 use Rattle.octets.specs.Over.{over, overAt}
 use Rattle.octets.specs.Number.{at}
-use Rattle.device.specs.Memory.{Memory, memory, Write, putAt, put, store}
+use Rattle.processor.specs.Memory.{Memory, memory, Write, putAt, put, store}
 use Rattle.octets.proofs.Overlay.{put-inside}
 use Rattle.saves.specs.Save.{blocks}
 use Rattle.saves.specs.Writes.{each, blockWrite, wordWrite, writesFor}

@@ -12,7 +12,7 @@ use Rattle.octets.specs.Outcome.{accepted}
 use Rattle.octets.specs.Number.{at, bigAt, bigBytes}
 use Rattle.octets.proofs.Choosing.{above, same}
 use Rattle.octets.proofs.InBytes.{big-behind, big-back}
-use Rattle.device.specs.Memory.{Memory, wronglySized}
+use Rattle.processor.specs.Memory.{Memory, wronglySized}
 use Rattle.saves.specs.Save.{field, shapeField, endField, blocks, fieldsFor, saveOf, room}
 use Rattle.saves.specs.Stream.{lengthOf, shape, shapeOf, endOf}
 use Rattle.saves.specs.Replay.{fieldsMean, judgedOf, judgedFor, replayOf}

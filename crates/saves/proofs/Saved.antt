@@ -22,7 +22,7 @@ use Rattle.fields.specs.Row.{packetOf, anyOf, encodedOf}
 use Rattle.fields.specs.declared.value.Value.the-variants.{Unknown}
 use Rattle.commands.specs.Encode.{rowOf}
 use Rattle.commands.specs.declared.Commands.the-variants.{WriteMemory, Write}
-use Rattle.device.specs.Memory.{Memory, wrongSizes}
+use Rattle.processor.specs.Memory.{Memory, tooLarge}
 use Rattle.saves.specs.Save.{field, shapeField, frameField, blockAt, memoryPacket, wordPacket, rising, endField, blocks, fieldsFor, saveOf, room}
 
 -- ---- the packets
@@ -106,7 +106,7 @@ unfolding blocks
 blocks-whole eeprom = let e : ℕ = length eeprom in omega (arith, length-blocks eeprom ((e + 31) / 32))
 
 -- memories that are not too large
-pub right-sizes : (e s : ℕ) → wrongSizes e s ≡ false → (e ≤ 65536) × (s ≤ 65536)
+pub right-sizes : (e s : ℕ) → tooLarge e s ≡ false → (e ≤ 65536) × (s ≤ 65536)
 right-sizes e s h = let first = passed 65536 e true (ifLt 65536 s true false) false true≢false h in (first .0, passed 65536 s true false false true≢false (first .1) .0)
 
 module _ (m : Memory) where

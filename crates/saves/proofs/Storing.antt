@@ -9,8 +9,8 @@ use Rattle.octets.specs.Refusals.{wrongSizes}
 use Rattle.octets.specs.Choice.{pick, ifEq}
 use Rattle.octets.proofs.Choosing.{was-same, refused-accepted}
 use Rattle.octets.proofs.Outcomes.{then-both, same-value, was-picked}
-use Rattle.device.specs.Memory.{Memory, Write, store, wrongSizes as badSizes}
-use Rattle.saves.specs.declared.judge.Shape.{Shape}
+use Rattle.processor.specs.Memory.{Memory, Write, store, tooLarge}
+use Rattle.saves.specs.declared.shape.Shape.{Shape}
 use Rattle.saves.specs.Stream.{contentOf, behind, tagOf, streamOf, endOf, shapeOf}
 use Rattle.saves.specs.Means.{packetMeans, frameMeans, allMean}
 use Rattle.saves.specs.Judged.{sound, receiptOf, packetIn}
@@ -61,23 +61,23 @@ module _ (l : List ℕ) where
   -- What stands in a sound save: the sizes in its first field, which are right, what its frames mean, and its last field.
   pub record Own (save : Save) : Type 0 where
     pub shaped : shapeOf l ≡ accepted (save .shape)
-    pub sized : badSizes (save .shape .eeprom) (save .shape .settings) ≡ false
+    pub sized : tooLarge (save .shape .eeprom) (save .shape .settings) ≡ false
     pub means : allMean (save .shape .eeprom) (save .shape .settings) frames ≡ accepted (save .writes)
     pub ended : endOf (length (save .writes)) (streamOf (drop 11 l) .tail) ≡ accepted tt
 
   pub own : {save : Save} → judgedOf l ≡ accepted save → Own save
   unfolding judgedOf fieldsMean
   own {save} h =
-      let shaped = then-both (shapeOf l) (λ (sh : Shape). pick (badSizes (sh .eeprom) (sh .settings)) (refused wrongSizes) (readFor sh l)) h in
+      let shaped = then-both (shapeOf l) (λ (sh : Shape). pick (tooLarge (sh .eeprom) (sh .settings)) (refused wrongSizes) (readFor sh l)) h in
       let sh = shaped .value in
       let e = sh .eeprom in
       let s = sh .settings in
-      let read = then-both (fieldsMean e s (drop 11 l)) (λ (ws : List Write). accepted (saveOf sh ws)) (was-picked (badSizes e s) wrongSizes (readFor sh l) (shaped .second)) in
+      let read = then-both (fieldsMean e s (drop 11 l)) (λ (ws : List Write). accepted (saveOf sh ws)) (was-picked (tooLarge e s) wrongSizes (readFor sh l) (shaped .second)) in
       let all = then-both (allMean e s frames) (λ (ws : List Write). andThen (endOf (length ws) (streamOf (drop 11 l) .tail)) (λ u. accepted ws)) (read .first) in
       let end = then-both (endOf (length (all .value)) (streamOf (drop 11 l) .tail)) (λ u. accepted (all .value)) (all .second) in
       let ws : all .value ≡ read .value = same-value (end .second) in
       let is : saveOf sh (read .value) ≡ save = same-value (read .second) in
-      rw (← is, ← ws) (record { shaped = shaped .first; sized = not-picked (badSizes e s) wrongSizes (readFor sh l) (shaped .second); means = all .first; ended = end .first })
+      rw (← is, ← ws) (record { shaped = shaped .first; sized = not-picked (tooLarge e s) wrongSizes (readFor sh l) (shaped .second); means = all .first; ended = end .first })
 
   -- and its frames write what they mean
   pub own-writes : {save : Save} → judgedOf l ≡ accepted save → framesWrite (save .shape .eeprom) (save .shape .settings) frames ≡ save .writes

@@ -12,7 +12,7 @@ use Rattle.octets.proofs.InBytes.{little-behind, little-back}
 use Rattle.packet.specs.Frame.{frameOf}
 use Rattle.packet.proofs.Inverse.{strict-of-frame, packet-of-frame}
 use Rattle.fields.specs.Addr.{addrAt}
-use Rattle.device.specs.Memory.{Memory, Write, bytes, word}
+use Rattle.processor.specs.Memory.{Memory, Write, bytes, word}
 use Rattle.saves.specs.Save.{memoryPacket, wordPacket, blocks}
 use Rattle.saves.specs.Means.{packetMeans, frameMeans, allMean}
 use Rattle.saves.specs.Writes.{Words, each, framesFor, blockWrite, wordWrite, writesFor}

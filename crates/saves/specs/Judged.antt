@@ -7,8 +7,8 @@ use Rattle.octets.specs.Outcome.{Outcome, accepted, refused, onAccepted}
 use Rattle.octets.specs.Choice.{pick, ifLt, ifEq}
 use Rattle.octets.specs.Place.{placeAt, partOf}
 use Rattle.packet.specs.Receipt.{lengthByte}
-use Rattle.device.specs.Memory.{wrongSizes as badSizes}
-use Rattle.saves.specs.declared.judge.Shape.{Shape}
+use Rattle.processor.specs.Memory.{tooLarge}
+use Rattle.saves.specs.declared.shape.Shape.{Shape}
 use Rattle.saves.specs.Replay.{Save, readFor}
 
 -- that nothing is refused, and no more
@@ -26,4 +26,4 @@ abbrev pub packetIn : List ℕ → List ℕ
 packetIn frame = partOf frame (placeAt 1 (lengthByte frame - 1))
 
 abbrev pub sizedOf : Shape → List ℕ → Outcome Save
-sizedOf shape l = pick (badSizes (shape .eeprom) (shape .settings)) (refused wrongSizes) (readFor shape l)
+sizedOf shape l = pick (tooLarge (shape .eeprom) (shape .settings)) (refused wrongSizes) (readFor shape l)

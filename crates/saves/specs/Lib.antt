@@ -5,6 +5,3 @@ pub mod Replay
 pub mod Writes
 pub mod Judged
 pub mod Stored
-pub mod Listing
-pub mod Line
-pub mod Listed

@@ -7,13 +7,16 @@ use Rattle.octets.specs.Outcome.{Outcome, accepted, refused, andThen}
 use Rattle.octets.specs.Choice.{ifLt, ifEq}
 use Rattle.octets.specs.Number.{at, bigAt, littleAt}
 use Rattle.octets.specs.Place.{partOf}
+use Rattle.octets.specs.Reading.{rest}
 use Rattle.octets.specs.declared.Place.{Place}
 use Rattle.packet.specs.Receipt.{strictOf}
 use Rattle.fields.specs.Addr.{addrAt}
 use Rattle.commands.specs.Decode.{r}
-use Rattle.device.specs.Memory.{Write, bytes, word}
-use Rattle.saves.specs.declared.means.Means.{Means}
-use Rattle.saves.specs.declared.means.Means.the-variants.{Bytes, Word, Refused}
+use Rattle.processor.specs.Memory.{Write, bytes, word}
+use Rattle.processor.specs.declared.write.Change.{Change}
+use Rattle.processor.specs.declared.write.Change.the-variants.{Bytes, Word}
+use Rattle.saves.specs.declared.means.Meant.{Meant}
+use Rattle.saves.specs.declared.means.Meant.the-variants.{Is, Refused}
 
 -- 7 where the end is beyond E
 abbrev pub memoryMeans : ℕ → List ℕ → Outcome Write
@@ -39,8 +42,13 @@ abbrev pub allMean : ℕ → ℕ → List (List ℕ) → Outcome (List Write)
 allMean e s [] = accepted []
 allMean e s (frame ∷ frames) = andThen (frameMeans e s frame) (λ w. andThen (allMean e s frames) (λ ws. accepted (w ∷ ws)))
 
--- what the enum of means.rt stands for; p is the packet
-abbrev pub means : List ℕ → Means → Outcome Write
-means p (Bytes a place) = accepted (bytes a (partOf p place))
-means p (Word a value) = accepted (word a value)
-means p (Refused k) = refused k
+-- ---- as means.rt answers it
+
+abbrev pub meant : Meant → Outcome Change
+meant (Is change) = accepted change
+meant (Refused k) = refused k
+
+-- the change that a write of the packet p is: its bytes stand behind the first three
+abbrev pub inPacket : List ℕ → Write → Change
+inPacket p (bytes a b) = Bytes a (rest 3 p)
+inPacket p (word a w) = Word a w

@@ -5,9 +5,9 @@ use lib.ListN.{length, drop}
 use Rattle.octets.specs.Refusals.{tooLong, wrongSizes}
 use Rattle.octets.specs.Outcome.{Outcome, accepted, refused, andThen}
 use Rattle.octets.specs.Choice.{pick, ifLt, ifEq}
-use Rattle.device.specs.Memory.{Memory, Write, store, wronglySized, wrongSizes as badSizes}
+use Rattle.processor.specs.Memory.{Memory, Write, store, wronglySized, tooLarge}
 use Rattle.saves.specs.Stream.{streamOf, endOf, shapeOf}
-use Rattle.saves.specs.declared.judge.Shape.{Shape}
+use Rattle.saves.specs.declared.shape.Shape.{Shape}
 use Rattle.saves.specs.Means.{allMean}
 
 -- the writes of the fields behind the first
@@ -25,7 +25,7 @@ readFor shape l = andThen (fieldsMean (shape .eeprom) (shape .settings) (drop 11
 
 -- "judges it against the save's own sizes (over 65,536: 14)"
 unfoldable pub judgedOf : List ℕ → Outcome Save
-judgedOf l = andThen (shapeOf l) (λ (shape : Shape). pick (badSizes (shape .eeprom) (shape .settings)) (refused wrongSizes) (readFor shape l))
+judgedOf l = andThen (shapeOf l) (λ (shape : Shape). pick (tooLarge (shape .eeprom) (shape .settings)) (refused wrongSizes) (readFor shape l))
 
 -- "sizes different 14"
 unfoldable pub judgedFor : ℕ → ℕ → List ℕ → Outcome Save

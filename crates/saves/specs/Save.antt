@@ -17,7 +17,7 @@ use Rattle.fields.specs.declared.value.Value.the-variants.{Unknown}
 use Rattle.commands.specs.Encode.{rowOf}
 use Rattle.commands.specs.declared.Commands.{Commands}
 use Rattle.commands.specs.declared.Commands.the-variants.{WriteMemory, Write}
-use Rattle.device.specs.Memory.{Memory, wronglySized}
+use Rattle.processor.specs.Memory.{Memory, wronglySized}
 
 -- "Fields: one-byte tag, two-byte length, content; numbers are big-endian."
 unfoldable pub field : ℕ → List ℕ → List ℕ

@@ -2,7 +2,7 @@
 use Prim.Native.Nat.{ℕ}
 use mathlib.Core.List.{List, [], _∷_, _++_}
 use Rattle.octets.specs.Outcome.{Outcome, accepted, refused}
-use Rattle.device.specs.Memory.{Write}
+use Rattle.processor.specs.Memory.{Write}
 use Rattle.saves.specs.Means.{packetMeans}
 use Rattle.saves.specs.Judged.{packetIn}
 

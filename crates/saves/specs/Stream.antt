@@ -7,9 +7,9 @@ use Rattle.octets.specs.Outcome.{Outcome, accepted, refused}
 use Rattle.octets.specs.Choice.{ifLt, ifEq}
 use Rattle.octets.specs.Number.{at, bigAt}
 use Rattle.octets.specs.Place.{placeAt, partOf}
-use Rattle.saves.specs.declared.judge.Shape.{Shape}
-use Rattle.saves.specs.declared.judge.Judged.{Judged}
-use Rattle.saves.specs.declared.judge.Judged.the-variants.{Sound, Refused}
+use Rattle.saves.specs.declared.shape.Shape.{Shape}
+use Rattle.saves.specs.declared.shape.Judged.{Judged}
+use Rattle.saves.specs.declared.shape.Judged.the-variants.{Sound, Refused}
 
 -- "one-byte tag, two-byte length, content"
 abbrev pub lengthOf : List ℕ → ℕ

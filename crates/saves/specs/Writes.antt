@@ -4,7 +4,7 @@ use mathlib.Core.List.{List, [], _∷_, _++_}
 use lib.ListN.{length, take, drop}
 use Rattle.octets.specs.Number.{at}
 use Rattle.packet.specs.Frame.{frameOf}
-use Rattle.device.specs.Memory.{Memory, Write, bytes, word}
+use Rattle.processor.specs.Memory.{Memory, Write, bytes, word}
 use Rattle.saves.specs.Save.{memoryPacket, wordPacket, blocks}
 
 -- a list of words

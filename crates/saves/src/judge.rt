@@ -1,38 +1,28 @@
 // Judging a save, up to its first fault.
 ghost use mathlib.Core.Path.{_≡_};
 ghost use Prim.Native.Nat.{_+_};
-ghost use Rattle.octets.specs.Outcome.{onAccepted};
+ghost use Rattle.octets.specs.Outcome.{onAccepted, done};
 ghost use Rattle.packet.specs.Receipt.{packetAt};
 ghost use Rattle.octets.specs.Place.{partOf};
-ghost use Rattle.responses.specs.Kind.{done};
 ghost use Rattle.saves.specs.Stream.{judged};
 ghost use Rattle.saves.specs.Means.{packetMeans};
 ghost use Rattle.saves.specs.Judged.{sound, receiptOf, sizedOf};
 ghost use Rattle.saves.specs.Replay.{judgedOf, fieldsMean};
-use crate::means::Means;
+use crate::means::Meant;
 use crate::means::meaning_of;
+use crate::shape::Judged;
+use crate::shape::Shape;
+use crate::shape::shape_of;
 use crate::stream;
+use octets::Done;
 use octets::number;
 use octets::refusal;
-use responses::kind::Done;
-
-// The sizes of the memories that a save is for.
-pub struct Shape {
-    pub eeprom: usize,
-    pub settings: usize,
-}
-
-// A sound save's sizes, or the number of the first fault.
-pub enum Judged {
-    Sound(Shape),
-    Refused(u8),
-}
 
 // Judges a save against its own sizes.
 pub fn judge(save: &[u8]) -> Judged
     ensures { λ r. ⌜ judged r ≡ onAccepted (λ s. s .shape) (judgedOf (now (save .entry))) ⌝ }
 {
-    match stream::shape_of(save) {
+    match shape_of(save) {
         Judged::Sound(shape) => judge_sized(shape, save),
         Judged::Refused(k) => Judged::Refused(k),
     }
@@ -41,7 +31,7 @@ pub fn judge(save: &[u8]) -> Judged
 fn judge_sized(shape: Shape, save: &[u8]) -> Judged
     ensures { λ r. ⌜ judged r ≡ onAccepted (λ s. s .shape) (sizedOf shape (now (save .entry))) ⌝ }
 {
-    if device::wrong_sizes(shape.eeprom, shape.settings) {
+    if processor::too_large(shape.eeprom, shape.settings) {
         return Judged::Refused(refusal::WRONG_SIZES);
     }
     let fields = octets::part(save, octets::rest_of(save, stream::FIRST));
@@ -108,8 +98,7 @@ fn packet_fault(packet: &[u8], e: usize, s: usize) -> Done
     ensures { λ r. ⌜ done r ≡ sound (packetMeans e s (now (packet .entry))) ⌝ }
 {
     match meaning_of(packet, e, s) {
-        Means::Bytes { .. } => Done::Done,
-        Means::Word { .. } => Done::Done,
-        Means::Refused(k) => Done::Refused(k),
+        Meant::Is(_) => Done::Done,
+        Meant::Refused(k) => Done::Refused(k),
     }
 }

@@ -1,11 +1,11 @@
 // Saves: both memories of a processor as a stream of fields, each frame in it a command that writes.
-// A save is written, judged, replayed and listed. (added)
+// A save is written, judged and replayed. (added)
 pub mod judge;
-pub mod listing;
-mod means;
+pub mod means;
 pub mod replay;
 pub mod save;
-mod stream;
+pub mod shape;
+pub mod stream;
 
 // The most bytes that a save has.
-pub const MOST: usize = 16_777_216;
+pub const LONGEST_SAVE: usize = 16_777_216;

@@ -1,29 +1,30 @@
 // Replaying a save: it is judged whole, and only then stored.
 ghost use mathlib.Core.Path.{_≡_};
 ghost use lib.ListN.{length};
-ghost use Rattle.device.specs.Memory.{memory, store as storeAll};
-ghost use Rattle.responses.specs.Kind.{done};
+ghost use Rattle.processor.specs.Memory.{memory, store as storeAll};
+ghost use Rattle.octets.specs.Outcome.{done};
 ghost use Rattle.saves.specs.Stream.{streamOf};
 ghost use Rattle.saves.specs.Replay.{judgedFor, replayOf};
 ghost use Rattle.saves.specs.Judged.{sound};
 ghost use Rattle.saves.specs.Stored.{framesWrite, frameWrites};
-use crate::MOST;
-use crate::judge;
-use crate::judge::Judged;
-use crate::means::Means;
+use crate::LONGEST_SAVE;
+use crate::judge::judge;
+use crate::means::Meant;
 use crate::means::meaning_of;
+use crate::shape::Judged;
+use crate::shape::shape_of;
 use crate::stream;
+use octets::Done;
 use octets::refusal;
-use responses::kind::Done;
 
 // Stores what a save's frames write, in order.
 pub fn replay(eeprom: &mut [u8], settings: &mut [u32], save: &[u8]) -> Done
     ensures { λ r. ⌜ (done r, memory (now (eeprom .exit)) (now (settings .exit))) ≡ replayOf (memory (now (eeprom .entry)) (now (settings .entry))) (now (save .entry)) ⌝ }
 {
-    if device::wrong_sizes(eeprom.len(), settings.len()) {
+    if processor::too_large(eeprom.len(), settings.len()) {
         return Done::Refused(refusal::WRONG_SIZES);
     }
-    if MOST < save.len() {
+    if LONGEST_SAVE < save.len() {
         return Done::Refused(refusal::TOO_LONG);
     }
     match judge_for(eeprom.len(), settings.len(), save) {
@@ -40,7 +41,7 @@ pub fn replay(eeprom: &mut [u8], settings: &mut [u32], save: &[u8]) -> Done
 fn judge_for(e: usize, s: usize, save: &[u8]) -> Done
     ensures { λ r. ⌜ done r ≡ sound (judgedFor e s (now (save .entry))) ⌝ }
 {
-    match stream::shape_of(save) {
+    match shape_of(save) {
         Judged::Sound(shape) => {
             if shape.eeprom != e {
                 return Done::Refused(refusal::WRONG_SIZES);
@@ -51,7 +52,7 @@ fn judge_for(e: usize, s: usize, save: &[u8]) -> Done
         }
         Judged::Refused(k) => return Done::Refused(k),
     }
-    match judge::judge(save) {
+    match judge(save) {
         Judged::Sound(_) => Done::Done,
         Judged::Refused(k) => Done::Refused(k),
     }
@@ -73,10 +74,7 @@ fn store_frame(frame: &[u8], eeprom: &mut [u8], settings: &mut [u32])
 {
     let packet = stream::packet_of(frame);
     match meaning_of(packet, eeprom.len(), settings.len()) {
-        Means::Bytes { addr, data } => {
-            octets::put_at(octets::part(packet, data), addr as usize, eeprom);
-        }
-        Means::Word { addr, value } => octets::put_word(addr as usize, value, settings),
-        Means::Refused(_) => {}
+        Meant::Is(change) => processor::write::store(change, packet, eeprom, settings),
+        Meant::Refused(_) => {}
     }
 }

@@ -9,7 +9,7 @@ ghost use Rattle.octets.specs.Over.{over, into};
 ghost use Rattle.fields.specs.Row.{packetOf, encodedOf};
 ghost use Rattle.commands.specs.Encode.{rowOf};
 ghost use Rattle.commands.specs.Decode.{noValues};
-ghost use Rattle.device.specs.Memory.{memory};
+ghost use Rattle.processor.specs.Memory.{memory};
 ghost use Rattle.saves.specs.Save.{savedInto, saveOf, shapeField, endField, frameField, memoryPacket, wordPacket, rising};
 use crate::stream;
 use commands::Commands;
@@ -28,7 +28,7 @@ const BLOCK: usize = 32;
 pub fn save(eeprom: &[u8], settings: &[u32], out: &mut [u8]) -> Written
     ensures { λ r. ⌜ (written r, now (out .exit)) ≡ savedInto (memory (now (eeprom .entry)) (now (settings .entry))) (now (out .entry)) ⌝ }
 {
-    if device::wrong_sizes(eeprom.len(), settings.len()) {
+    if processor::too_large(eeprom.len(), settings.len()) {
         return Written::Refused(refusal::WRONG_SIZES);
     }
     save_sized(eeprom, settings, out)

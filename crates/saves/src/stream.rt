@@ -2,15 +2,13 @@
 // reads as 0 or as nothing, and a field that is short has no tag.
 ghost use mathlib.Core.Path.{_≡_};
 ghost use Prim.Native.Nat.{_+_};
-ghost use Rattle.responses.specs.Kind.{done};
-ghost use Rattle.saves.specs.Stream.{judged, shapeOf, tagOf, lengthOf, contentOf, endOf};
+ghost use Rattle.octets.specs.Outcome.{done};
+ghost use Rattle.saves.specs.Stream.{tagOf, lengthOf, contentOf, endOf};
 ghost use Rattle.saves.specs.Judged.{packetIn};
-use crate::judge::Judged;
-use crate::judge::Shape;
+use octets::Done;
 use octets::Place;
 use octets::number;
 use octets::refusal;
-use responses::kind::Done;
 
 pub const SHAPE: u8 = 0x01;
 
@@ -23,25 +21,6 @@ pub const HEAD: usize = 3;
 
 // Where the first field of a save ends.
 pub const FIRST: usize = 11;
-
-// The sizes in the first field.
-pub fn shape_of(save: &[u8]) -> Judged
-    ensures { λ r. ⌜ judged r ≡ shapeOf (now (save .entry)) ⌝ }
-{
-    if save.len() < FIRST {
-        return Judged::Refused(refusal::WRONG_FIELD);
-    }
-    if number::byte(save, 0) != SHAPE {
-        return Judged::Refused(refusal::WRONG_FIELD);
-    }
-    if number::big16(save, 1) != 8 {
-        return Judged::Refused(refusal::WRONG_FIELD);
-    }
-    Judged::Sound(Shape {
-        eeprom: number::big32(save, 3) as usize,
-        settings: number::big32(save, 7) as usize,
-    })
-}
 
 // The first field's tag.
 pub fn tag_of(rest: &[u8]) -> u8

@@ -5,7 +5,7 @@ use mathlib.Core.List.{List}
 use native.Mathlib.Omega.{arith}
 use borrow.Author.Needs.{needs}
 use Rattle.octets.proofs.Choosing.{tests}
-use Rattle.device.specs.Memory.{Memory, memory}
+use Rattle.processor.specs.Memory.{Memory, memory}
 use Rattle.saves.specs.Writes.{Words}
 use Rattle.history.specs.Restores.{SameSizes}
 use Rattle.history.proofs.Transfers.{transfer-refused, transfer-done, saved-fits}

@@ -1,8 +1,7 @@
 -- Within the place four times i fits.
 use mathlib.Core.Path.{refl}
 use Rattle.octets.proofs.Parts.{found-inside}
-use Rattle.octets.proofs.Choosing.{above}
-use Rattle.octets.proofs.Choosing.{tests}
+use Rattle.octets.proofs.Choosing.{above, tests}
 use native.Mathlib.Omega.{arith}
 use Rattle.octets.specs.Place.{outsideOf}
 use borrow.Author.Needs.{needs}

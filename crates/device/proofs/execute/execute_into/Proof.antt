@@ -4,10 +4,10 @@ use Rattle.device.proofs.execute.execute_into.Statement.{statement}
 use Rattle.device.proofs.execute.execute_into.Tie as tie
 
 returns : tie.Need-returns
-returns c = rw (← c .before .wrong-sizes .ensures, c .if1 .taken)
+returns c = rw (← c .before .too-large .ensures, c .if1 .taken)
 
 returns-2 : tie.Need-returns-2
-returns-2 c = let answer = c .before .before .before .before .before .before in let sized = answer .before .before .before .before in rw (← sized .before .wrong-sizes .ensures, sized .if1 .left) (answer .answer-into .ensures)
+returns-2 c = let answer = c .before .before .before .before .before .before in let sized = answer .before .before .before .before in rw (← sized .before .too-large .ensures, sized .if1 .left) (answer .answer-into .ensures)
 
 pub execute-into-spec : {M : Type 1} → statement M
 execute-into-spec =

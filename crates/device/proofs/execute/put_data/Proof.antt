@@ -1,5 +1,5 @@
 -- A payload by its kind, or none.
-use Rattle.device.proofs.Payload.{over-nothing}
+use Rattle.octets.proofs.Overlay.{over-nothing}
 use mathlib.Core.Path.{refl}
 use native.Mathlib.Omega.{arith}
 use borrow.Author.Needs.{needs}

@@ -7,8 +7,9 @@ use lib.Seq.{getD-drop}
 use borrow.Author.Needs.{needs}
 use Rattle.octets.specs.Number.{littleBytes}
 use Rattle.octets.specs.Over.{over}
+use Rattle.octets.proofs.Overlay.{over-nothing}
 use Rattle.device.specs.Data.{wordBytes}
-use Rattle.device.proofs.Payload.{over-nothing, words-all, words-finish, words-next, words-room}
+use Rattle.device.proofs.Payload.{words-all, words-finish, words-next, words-room}
 use Rattle.device.proofs.execute.put_words.Statement.{statement}
 use Rattle.device.proofs.execute.put_words.Tie as tie
 

@@ -1,9 +1,8 @@
 -- Sized, then as sound as its fields.
 use mathlib.Core.Path.{_≡_, ap, _∙_}
 use lib.ListN.{drop}
-use Rattle.octets.specs.Outcome.{onAccepted}
+use Rattle.octets.specs.Outcome.{onAccepted, done}
 use Rattle.octets.specs.Place.{partOf}
-use Rattle.responses.specs.Kind.{done}
 use Rattle.saves.specs.Replay.{Save, fieldsMean}
 use Rattle.saves.specs.Judged.{sizedOf}
 use Rattle.octets.proofs.Parts.{part-rest}
@@ -13,7 +12,7 @@ use Rattle.saves.proofs.judge.judge_sized.Statement.{statement}
 use Rattle.saves.proofs.judge.judge_sized.Tie as tie
 
 returns : tie.Need-returns
-returns c = rw (← c .before .wrong-sizes .ensures, c .if1 .taken)
+returns c = rw (← c .before .too-large .ensures, c .if1 .taken)
 
 -- what the scan tells, with the sizes put beside
 told : (d : tie.After-scan) → let a = d .before .before .before .before .before .before .args in onAccepted (λ (s : Save). s .shape) (sizedOf (a .shape) (a .save .now)) ≡ onAccepted (λ u. a .shape) (done (d .scan .result))
@@ -23,7 +22,7 @@ told d =
     let shape = d .before .before .before .before .before .before .args .shape in
     let l = d .before .before .before .before .before .before .args .save .now in
     let fields = lent .part .ensures ∙ ap (partOf l) (lent .before .rest-of .ensures) ∙ part-rest l 11 in
-    rw (← sized .before .wrong-sizes .ensures, sized .if1 .left, only-shape shape (fieldsMean (shape .eeprom) (shape .settings) (drop 11 l)), ← fields, ← d .scan .ensures)
+    rw (← sized .before .too-large .ensures, sized .if1 .left, only-shape shape (fieldsMean (shape .eeprom) (shape .settings) (drop 11 l)), ← fields, ← d .scan .ensures)
 
 returns-2 : tie.Need-returns-2
 returns-2 c = rw (told (c .before .before), c .enum-told .given .1)

@@ -5,7 +5,7 @@ use mathlib.Core.Path.{_≡_, refl, sym, _∙_}
 use mathlib.Core.List.{List}
 use native.Mathlib.Omega.{arith}
 use lib.ListN.{length}
-use Rattle.device.specs.Memory.{Memory, memory, store as storeAll}
+use Rattle.processor.specs.Memory.{Memory, memory, store as storeAll}
 use Rattle.saves.specs.Stream.{tagOf, streamOf}
 use Rattle.saves.specs.Stored.{framesWrite}
 use Rattle.saves.proofs.Streams.{tag-whole, cut-behind, behind-shorter}

@@ -1,20 +1,27 @@
--- The write, by its kind.
-use mathlib.Core.Path.{ap}
-use Prim.Native.Nat.{ℕ}
-use mathlib.Core.List.{List}
-use Rattle.octets.specs.Outcome.{Outcome}
+-- What it means, if anything.
+use lib.ListN.{length}
+use Rattle.saves.specs.Means.{packetMeans}
+use Rattle.saves.proofs.Meaning.{change-writes, none-writes}
 use borrow.Author.Needs.{needs}
 use Rattle.saves.proofs.replay.store_frame.Statement.{statement}
 use Rattle.saves.proofs.replay.store_frame.Tie as tie
 
 returns : tie.Need-returns
-returns c = let left = ap (λ (p : Outcome ℕ × List ℕ). p .1) (c .before .before .put-at .ensures) in rw (← c .before .before .before .before .before .before .before .before .before .packet-of .ensures, ← c .before .before .before .before .before .before .before .before .meaning-of .ensures, c .before .before .before .before .before .before .addr .given .1, left, c .before .before .before .before .part .ensures)
+returns c =
+    let stored = c .before .before .before .before in
+    let change = stored .before .before .before .before .change in
+    let told = stored .before .before .before .before .before .before in
+    let a = told .before .before .before .before .before .args in
+    let means = rw (change .given .1) at (told .meaning-of .ensures) in
+    rw (← told .before .packet-of .ensures, ← change-writes _ (length (a .eeprom .now)) (length (a .settings .now)) _ means) (stored .store .ensures)
 
 returns-2 : tie.Need-returns-2
-returns-2 c = rw (← c .before .before .before .before .before .before .before .before .packet-of .ensures, ← c .before .before .before .before .before .before .before .meaning-of .ensures, c .before .before .before .before .before .addr2 .given .1, c .before .before .put-word .ensures)
-
-returns-3 : tie.Need-returns-3
-returns-3 c = rw (← c .before .before .before .packet-of .ensures, ← c .before .before .meaning-of .ensures, c .enum-told .given .1)
+returns-2 c =
+    let told = c .before .before in
+    let a = told .before .before .before .before .before .args in
+    let p = told .before .packet-of .result .now in
+    let means = rw (c .enum-told .given .1) at (told .meaning-of .ensures) in
+    rw (← told .before .packet-of .ensures, ← none-writes p (packetMeans (length (a .eeprom .now)) (length (a .settings .now)) p) means)
 
 pub store-frame-spec : {M : Type 1} → statement M
 store-frame-spec =
@@ -25,13 +32,7 @@ store-frame-spec =
     (λ c. search needs)
     (λ c κs. search needs)
     (λ c. search needs)
-    (λ c κs. search needs)
-    (λ c. search needs)
-    (λ c. search needs)
-    (λ c κs. search needs)
     (λ c. search needs)
     (λ c. search needs)
     returns
-    (λ c. search needs)
-    returns-2
-    returns-3)
+    returns-2)

@@ -8,7 +8,7 @@ use borrow.Author.Needs.{needs}
 use Rattle.octets.specs.Over.{over}
 use Rattle.octets.proofs.Choosing.{below, above}
 use Rattle.octets.proofs.Overlay.{over-rest}
-use Rattle.device.specs.Memory.{memory}
+use Rattle.processor.specs.Memory.{memory}
 use Rattle.saves.specs.Save.{shapeField, endField, memoryPacket, wordPacket, rising, blocks, room}
 use Rattle.saves.proofs.Saved.{length-shape, length-end, length-words, blocks-whole, length-save, save-parts}
 use Rattle.saves.proofs.save.save_sized.Statement.{statement}

@@ -1,0 +1,4 @@
+pub mod Listing
+-- what only private functions promise
+pub mod Listed
+pub mod Line

@@ -1,0 +1,83 @@
+-- The listing of a save. "The listing program reads one save from standard input, checks 5, judges it against the save's own
+-- sizes (over 65,536: 14), and prints it, or only `refused N`."
+use Prim.Native.Nat.{ℕ, zero, suc, _+_, _/_, _%_, _^_}
+use mathlib.Core.List.{List, [], _∷_, _++_}
+use lib.ListN.{length}
+use Rattle.octets.specs.Refusals.{tooLong}
+use Rattle.octets.specs.Outcome.{Outcome, refused, onAccepted}
+use Rattle.octets.specs.Choice.{ifLt, ifEq}
+use Rattle.octets.specs.Over.{settle}
+use Rattle.processor.specs.Memory.{Write, bytes, word}
+use Rattle.saves.specs.declared.shape.Shape.{Shape}
+use Rattle.saves.specs.Replay.{Save, judgedOf}
+
+-- "All other numbers are decimal": a number's last digit, and those of its tenth before it, where that is not 0. No number
+-- has more digits than it counts.
+unfoldable pub leading : ℕ → ℕ → List ℕ
+leading zero n = []
+leading (suc k) n = ifEq n 0 [] (leading k (n / 10) ++ ((48 + n % 10) ∷ []))
+
+unfoldable pub decimal : ℕ → List ℕ
+decimal n = leading n (n / 10) ++ ((48 + n % 10) ∷ [])
+
+-- "eight upper-case hex digits"
+abbrev pub hexDigit : ℕ → ℕ
+hexDigit d = ifLt d 10 (48 + d) (55 + d)
+
+unfoldable pub hexDigits : ℕ → ℕ → List ℕ
+hexDigits zero w = []
+hexDigits (suc k) w = hexDigit (w / 16 ^ k % 16) ∷ hexDigits k w
+
+abbrev pub hex8 : ℕ → List ℕ
+hex8 = hexDigits 8
+
+abbrev pub space : ℕ
+space = 32
+
+-- "each line ends with LF"
+abbrev pub lineEnd : List ℕ
+lineEnd = 10 ∷ []
+
+-- `shape `, `memory `, `setting `, `end `
+abbrev pub shapeName : List ℕ
+shapeName = 115 ∷ 104 ∷ 97 ∷ 112 ∷ 101 ∷ 32 ∷ []
+
+abbrev pub memoryName : List ℕ
+memoryName = 109 ∷ 101 ∷ 109 ∷ 111 ∷ 114 ∷ 121 ∷ 32 ∷ []
+
+abbrev pub settingName : List ℕ
+settingName = 115 ∷ 101 ∷ 116 ∷ 116 ∷ 105 ∷ 110 ∷ 103 ∷ 32 ∷ []
+
+abbrev pub endName : List ℕ
+endName = 101 ∷ 110 ∷ 100 ∷ 32 ∷ []
+
+-- two numbers behind a name
+unfoldable pub pairLine : List ℕ → ℕ → ℕ → List ℕ
+pairLine name a b = name ++ (decimal a ++ (space ∷ (decimal b ++ lineEnd)))
+
+unfoldable pub settingLine : ℕ → ℕ → List ℕ
+settingLine a w = settingName ++ (decimal a ++ (space ∷ (hex8 w ++ lineEnd)))
+
+unfoldable pub endLine : ℕ → List ℕ
+endLine n = endName ++ (decimal n ++ lineEnd)
+
+-- "address and byte count; address and word in eight upper-case hex digits"
+abbrev pub writeLine : Write → List ℕ
+writeLine (bytes a b) = pairLine memoryName a (length b)
+writeLine (word a w) = settingLine a w
+
+abbrev pub writeLines : List Write → List ℕ
+writeLines [] = []
+writeLines (w ∷ ws) = writeLine w ++ writeLines ws
+
+-- "E and S; .. frame count"
+unfoldable pub textFor : Shape → List Write → ℕ → List ℕ
+textFor shape ws n = pairLine shapeName (shape .eeprom) (shape .settings) ++ (writeLines ws ++ endLine n)
+
+-- each frame is one write
+abbrev pub textOf : Save → List ℕ
+textOf save = textFor (save .shape) (save .writes) (length (save .writes))
+
+-- "listing input over 32,768" 5
+abbrev pub listedInto : List ℕ → List ℕ → Outcome ℕ × List ℕ
+listedInto l out = ifLt 32768 (length l) (refused tooLong, out) (settle (onAccepted textOf (judgedOf l)) (λ text. text) out)

@@ -1,0 +1,22 @@
+-- Writes keep the lengths.
+use Prim.Native.Nat.{ℕ, _+_, _≤_, _<_}
+use mathlib.Core.Path.{_≡_, refl, sym, ap, _∙_}
+use mathlib.Core.Logic.{_⊎_, inl, inr}
+use mathlib.Core.List.{List, [], _∷_}
+use lib.ListN.{length}
+use Rattle.octets.proofs.Choosing.{lt-or-le}
+use Rattle.octets.proofs.Overlay.{length-over-at, put-outside, put-inside}
+use Rattle.processor.specs.Memory.{Memory, Write, bytes, word, putAt, put, store}
+
+module _ (a : ℕ) (w l : List ℕ) where
+  pub length-put : length (putAt a w l) ≡ length l
+  length-put = go (lt-or-le (length l) (a + length w))
+    where
+      go : (length l < a + length w) ⊎ (a + length w ≤ length l) → length (putAt a w l) ≡ length l
+      go (inl h) = ap length (sym (put-outside l a w h))
+      go (inr h) = ap length (sym (put-inside l a w h)) ∙ length-over-at l a w h
+
+pub length-store : (ws : List Write) (m : Memory) → length (store ws m .eeprom) ≡ length (m .eeprom)
+length-store [] m = refl
+length-store (bytes a b ∷ ws) m = length-store ws (put (bytes a b) m) ∙ length-put a b (m .eeprom)
+length-store (word a w ∷ ws) m = length-store ws (put (word a w) m)

@@ -1,0 +1,4 @@
+pub mod Tallies
+pub mod Said
+pub mod Counts
+pub mod Determined
