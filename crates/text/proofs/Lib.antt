@@ -1,0 +1,4 @@
+pub mod Digits
+pub mod Reading
+pub mod Determined
+pub mod Back
