@@ -22,7 +22,8 @@ use Rattle.saves.specs.Save.{field, shapeField, frameField, memoryPacket, wordP
 use Rattle.saves.specs.Stream.{contentOf, behind, tagOf, streamUpTo, streamOf, endOf, shapeOf}
 use Rattle.saves.specs.Means.{packetMeans, frameMeans}
 use Rattle.saves.specs.Replay.{fieldsMean, judgedOf, judgedFor, replayOf}
-use Rattle.listed.specs.Listing.{leading, decimal, hexDigits, pairLine, settingLine, endLine, textFor}
+use Rattle.text.specs.Digits.{leading, decimal, hexDigits}
+use Rattle.listed.specs.Listing.{pairLine, settingLine, endLine, textFor}
 use Rattle.bench_list.specs.List.{BenchList, ReadsPastEnd}
 
 sized : (m : Memory) → length (m .eeprom) ≡ 65536 → length (m .settings) ≤ 65536 → wronglySized m ≡ false

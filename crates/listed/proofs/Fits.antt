@@ -19,19 +19,15 @@ use Rattle.saves.specs.Stream.{lengthOf, contentOf, behind, tagOf, streamOf, en
 use Rattle.saves.specs.Means.{packetMeans, memoryMeans, wordMeans, frameMeans, allMean}
 use Rattle.saves.specs.Judged.{receiptOf, packetIn}
 use Rattle.saves.specs.Replay.{Save, judgedOf}
-use Rattle.listed.specs.Listing.{decimal, hexDigits, pairLine, settingLine, endLine, writeLine, writeLines, textFor, textOf}
+use Rattle.text.specs.Digits.{decimal}
+use Rattle.text.proofs.Digits.{decimal-short, length-hex}
+use Rattle.listed.specs.Listing.{pairLine, settingLine, endLine, writeLine, writeLines, textFor, textOf}
 use Rattle.saves.proofs.Streams.{tag-whole, length-behind, behind-shorter, stream-frame, stream-end}
 use Rattle.saves.proofs.Judging.{summed, frame-is, as-long}
 use Rattle.saves.proofs.Saved.{right-sizes}
 use Rattle.saves.proofs.Storing.{own}
-use Rattle.listed.proofs.Text.{decimal-short}
 
 -- ---- lines
-length-hex : (k w : ℕ) → length (hexDigits k w) ≡ k
-unfolding hexDigits
-length-hex zero w = refl
-length-hex (suc k) w = ap suc (length-hex k w)
-
 length-pair : (name : List ℕ) (a b : ℕ) → length (pairLine name a b) ≡ length name + length (decimal a) + length (decimal b) + 2
 unfolding pairLine
 length-pair name a b = simp length-append (omega arith)

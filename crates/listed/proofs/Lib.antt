@@ -1,4 +1,4 @@
-pub mod Text
-pub mod Lines
 pub mod Fits
+pub mod Lines
+pub mod Adding
 pub mod Determined

@@ -1,4 +1,2 @@
 pub mod Listing
--- what only private functions promise
-pub mod Listed
-pub mod Line
+pub mod Inside

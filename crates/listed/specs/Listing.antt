@@ -1,35 +1,16 @@
 -- The listing of a save. "The listing program reads one save from standard input, checks 5, judges it against the save's own
 -- sizes (over 65,536: 14), and prints it, or only `refused N`."
-use Prim.Native.Nat.{ℕ, zero, suc, _+_, _/_, _%_, _^_}
+use Prim.Native.Nat.{ℕ}
 use mathlib.Core.List.{List, [], _∷_, _++_}
 use lib.ListN.{length}
 use Rattle.octets.specs.Refusals.{tooLong}
 use Rattle.octets.specs.Outcome.{Outcome, refused, onAccepted}
-use Rattle.octets.specs.Choice.{ifLt, ifEq}
+use Rattle.octets.specs.Choice.{ifLt}
 use Rattle.octets.specs.Over.{settle}
+use Rattle.text.specs.Digits.{decimal, hexDigits}
 use Rattle.processor.specs.Memory.{Write, bytes, word}
 use Rattle.saves.specs.declared.shape.Shape.{Shape}
 use Rattle.saves.specs.Replay.{Save, judgedOf}
-
--- "All other numbers are decimal": a number's last digit, and those of its tenth before it, where that is not 0. No number
--- has more digits than it counts.
-unfoldable pub leading : ℕ → ℕ → List ℕ
-leading zero n = []
-leading (suc k) n = ifEq n 0 [] (leading k (n / 10) ++ ((48 + n % 10) ∷ []))
-
-unfoldable pub decimal : ℕ → List ℕ
-decimal n = leading n (n / 10) ++ ((48 + n % 10) ∷ [])
-
--- "eight upper-case hex digits"
-abbrev pub hexDigit : ℕ → ℕ
-hexDigit d = ifLt d 10 (48 + d) (55 + d)
-
-unfoldable pub hexDigits : ℕ → ℕ → List ℕ
-hexDigits zero w = []
-hexDigits (suc k) w = hexDigit (w / 16 ^ k % 16) ∷ hexDigits k w
-
-abbrev pub hex8 : ℕ → List ℕ
-hex8 = hexDigits 8
 
 abbrev pub space : ℕ
 space = 32
@@ -51,12 +32,12 @@ settingName = 115 ∷ 101 ∷ 116 ∷ 116 ∷ 105 ∷ 110 ∷ 103 ∷ 32 ∷ []
 abbrev pub endName : List ℕ
 endName = 101 ∷ 110 ∷ 100 ∷ 32 ∷ []
 
--- two numbers behind a name
+-- two numbers behind a name: "All other numbers are decimal"
 unfoldable pub pairLine : List ℕ → ℕ → ℕ → List ℕ
 pairLine name a b = name ++ (decimal a ++ (space ∷ (decimal b ++ lineEnd)))
 
 unfoldable pub settingLine : ℕ → ℕ → List ℕ
-settingLine a w = settingName ++ (decimal a ++ (space ∷ (hex8 w ++ lineEnd)))
+settingLine a w = settingName ++ (decimal a ++ (space ∷ (hexDigits 8 w ++ lineEnd)))
 
 unfoldable pub endLine : ℕ → List ℕ
 endLine n = endName ++ (decimal n ++ lineEnd)

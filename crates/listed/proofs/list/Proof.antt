@@ -1,10 +1,15 @@
 -- Too long, sound, or refused as it was judged.
 use mathlib.Core.Path.{refl}
 use Rattle.octets.proofs.Choosing.{below, above}
-use Rattle.listed.proofs.Lines.{lists, refuses}
+use Rattle.listed.proofs.Lines.{sound-fits, lists, refuses}
 use borrow.Author.Needs.{needs}
 use Rattle.listed.proofs.list.Statement.{statement}
 use Rattle.listed.proofs.list.Tie as tie
+
+list-sound-requires : tie.Need-list-sound-requires
+list-sound-requires c κs =
+    let sound = rw (c .before .before .shape .given .1) at (c .before .before .before .before .judge .ensures) in
+    sound-fits _ (c .before .before .before .before .before .if1 .left) sound
 
 returns : tie.Need-returns
 returns c = below _ _ _ _ _ (c .if1 .taken) refl
@@ -26,7 +31,7 @@ list-spec =
     returns
     (λ c κs. search needs)
     (λ c. search needs)
-    (λ c κs. search needs)
+    list-sound-requires
     (λ c. search needs)
     (λ c. search needs)
     returns-2
