@@ -2,15 +2,16 @@
 // A save is judged; then its text is made once, on a page that has room for every text
 // (proofs/Fits.antt), and put whole or not at all.
 ghost use mathlib.Core.Path.{_≡_};
+ghost use mathlib.Core.List.{_∷_, _++_};
 ghost use Prim.Native.Nat.{_≤_};
 ghost use lib.ListN.{length, drop};
 ghost use Rattle.octets.specs.Outcome.{written};
 ghost use Rattle.octets.specs.Over.{into};
-ghost use Rattle.text.specs.Digits.{decimal};
+ghost use Rattle.text.specs.Digits.{decimal, hexDigits};
 ghost use Rattle.processor.specs.Change.{writesIn};
 ghost use Rattle.saves.specs.Stream.{streamOf};
 ghost use Rattle.saves.specs.Stored.{frameWrites};
-ghost use Rattle.listed.specs.Listing.{pairLine, settingLine, endLine, writeLines, listedInto};
+ghost use Rattle.listed.specs.Listing.{space, lineEnd, pairLine, settingLine, endLine, writeLines, listedInto};
 ghost use Rattle.listed.specs.Inside.{Adds, linesOf, framesText};
 use octets::Written;
 use octets::refusal;
@@ -126,19 +127,23 @@ fn add_change(change: Change, packet: &[u8], at: usize, page: &mut [u8]) -> usiz
 fn add_pair(name: &[u8], a: usize, b: usize, at: usize, page: &mut [u8]) -> usize
     ensures { λ r. ⌜ Adds (pairLine (now (name .entry)) a b) at (now (page .entry)) r (now (page .exit)) ⌝ }
 {
-    let behind_name = add(name, at, page);
-    let behind_a = add_decimal(a, behind_name, page);
-    let behind_space = add(b" ", behind_a, page);
-    let behind_b = add_decimal(b, behind_space, page);
+    let behind_a = add_number(name, a, at, page);
+    let behind_b = add_number(b" ", b, behind_a, page);
     add(b"\n", behind_b, page)
 }
 
 fn add_setting(addr: usize, value: u32, at: usize, page: &mut [u8]) -> usize
     ensures { λ r. ⌜ Adds (settingLine addr value) at (now (page .entry)) r (now (page .exit)) ⌝ }
 {
-    let behind_name = add(b"setting ", at, page);
-    let behind_addr = add_decimal(addr, behind_name, page);
-    let behind_space = add(b" ", behind_addr, page);
+    let behind_addr = add_number(b"setting ", addr, at, page);
+    add_word(value, behind_addr, page)
+}
+
+// What ends the line of a setting.
+fn add_word(value: u32, at: usize, page: &mut [u8]) -> usize
+    ensures { λ r. ⌜ Adds (space ∷ (hexDigits 8 value ++ lineEnd)) at (now (page .entry)) r (now (page .exit)) ⌝ }
+{
+    let behind_space = add(b" ", at, page);
     let behind_value = add(&text::hex8(value), behind_space, page);
     add(b"\n", behind_value, page)
 }
@@ -146,9 +151,16 @@ fn add_setting(addr: usize, value: u32, at: usize, page: &mut [u8]) -> usize
 fn add_end(frames: usize, at: usize, page: &mut [u8]) -> usize
     ensures { λ r. ⌜ Adds (endLine frames) at (now (page .entry)) r (now (page .exit)) ⌝ }
 {
-    let behind_name = add(b"end ", at, page);
-    let behind_frames = add_decimal(frames, behind_name, page);
+    let behind_frames = add_number(b"end ", frames, at, page);
     add(b"\n", behind_frames, page)
+}
+
+// A number behind a name.
+fn add_number(name: &[u8], n: usize, at: usize, page: &mut [u8]) -> usize
+    ensures { λ r. ⌜ Adds (now (name .entry) ++ decimal n) at (now (page .entry)) r (now (page .exit)) ⌝ }
+{
+    let behind_name = add(name, at, page);
+    add_decimal(n, behind_name, page)
 }
 
 fn add_decimal(n: usize, at: usize, page: &mut [u8]) -> usize

@@ -1,4 +1,4 @@
--- The name, the address, the word, the line's end.
+-- The name with the address, then the word.
 use Rattle.listed.specs.Listing.{settingLine}
 use Rattle.listed.proofs.Adding.{adds-adds}
 use borrow.Author.Needs.{needs}
@@ -7,21 +7,9 @@ use Rattle.listed.proofs.add_setting.Tie as tie
 
 returns : tie.Need-returns
 unfolding settingLine
-returns c = adds-adds (c .before .before .before .before .before .before .before .before .before .before .before .before .before .before .before .before .before .before .before .before .before .before .add .ensures) (adds-adds (c .before .before .before .before .before .before .before .before .before .before .before .before .before .before .before .before .before .before .add-decimal .ensures) (adds-adds (c .before .before .before .before .before .before .before .before .before .before .before .before .before .add2 .ensures) (adds-adds (rw (c .before .before .before .before .before .before .before .before .before .before .hex8 .ensures) at (c .before .before .before .before .before .before .before .add3 .ensures)) (c .before .before .add4 .ensures))))
+returns c = adds-adds (c .before .before .before .before .before .before .add-number .ensures) (c .before .before .add-word .ensures)
 
 pub add-setting-spec : {M : Type 1} → statement M
 add-setting-spec =
     tie.close
-    (tie.spec
-    (λ c. search needs)
-    (λ c κs. search needs)
-    (λ c κs. search needs)
-    (λ c. search needs)
-    (λ c κs. search needs)
-    (λ c κs. search needs)
-    (λ c. search needs)
-    (λ c κs. search needs)
-    (λ c. search needs)
-    (λ c κs. search needs)
-    (λ c. search needs)
-    returns)
+    (tie.spec (λ c. search needs) (λ c κs. search needs) (λ c κs. search needs) (λ c. search needs) returns)
