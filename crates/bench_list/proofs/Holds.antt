@@ -7,18 +7,18 @@ use lib.ListN.{length}
 use Rattle.octets.specs.Choice.{ifLt, ifEq}
 use Rattle.octets.specs.Number.{bigAt, littleAt, bigBytes, littleBytes}
 use Rattle.octets.specs.Over.{over, overAt}
-use Rattle.octets.specs.Place.{partOf, outsideOf}
+use Rattle.octets.specs.Place.{partOf, isOutside}
 use Rattle.octets.proofs.Choosing.{above}
 use Rattle.packet.specs.Frame.{total, frameOf}
 use Rattle.numbers.specs.Pattern.{magnitude, roundTo, patternOf}
 use Rattle.numbers.specs.FixedPoint.{cutSum, encoded, codeOf, aroundZero, bitsOfCode}
-use Rattle.numbers.specs.Gain.{byteOf}
+use Rattle.numbers.specs.Gain.{gainByte}
 use Rattle.fields.specs.Addr.{addrAt, addrBytes}
 use Rattle.fields.specs.Row.{packetOf}
-use Rattle.commands.specs.Decode.{kindOf, commandOf}
-use Rattle.responses.specs.Decode.{responseOf, kindOf as responseKindOf}
-use Rattle.processor.specs.Memory.{Memory, wronglySized}
-use Rattle.saves.specs.Save.{field, shapeField, frameField, memoryPacket, wordPacket, rising, endField, blocks, fieldsFor, saveOf}
+use Rattle.commands.specs.Decode.{commandBy, commandOf}
+use Rattle.responses.specs.Decode.{responseOf, responseBy as responseKindOf}
+use Rattle.processor.specs.Memory.{Memory, oversized}
+use Rattle.saves.specs.Save.{saveField, shapeField, frameField, memoryPacket, wordPacket, rising, endField, blocks, fieldsFor, saveOf}
 use Rattle.saves.specs.Stream.{contentOf, behind, tagOf, streamUpTo, streamOf, endOf, shapeOf}
 use Rattle.saves.specs.Means.{packetMeans, frameMeans}
 use Rattle.saves.specs.Replay.{fieldsMean, judgedOf, judgedFor, replayOf}
@@ -26,7 +26,7 @@ use Rattle.text.specs.Digits.{leading, decimal, hexDigits}
 use Rattle.listed.specs.Listing.{pairLine, settingLine, endLine, textFor}
 use Rattle.bench_list.specs.List.{BenchList, ReadsPastEnd}
 
-sized : (m : Memory) → length (m .eeprom) ≡ 65536 → length (m .settings) ≤ 65536 → wronglySized m ≡ false
+sized : (m : Memory) → length (m .eeprom) ≡ 65536 → length (m .settings) ≤ 65536 → oversized m ≡ false
 sized m e s = sym (above _ _ _ _ _ (omega arith) (above _ _ _ _ _ s refl))
 
 -- of the two bytes none comes from the EEPROM
@@ -35,7 +35,7 @@ unfolding ifLt partOf
 past-end d m payload out e s = rw (sized m e s, e)
 
 pub bench-list : BenchList
-unfolding ifLt ifEq bigAt littleAt bigBytes littleBytes over overAt partOf outsideOf total frameOf magnitude roundTo patternOf cutSum encoded codeOf aroundZero bitsOfCode byteOf addrAt addrBytes packetOf kindOf commandOf responseOf responseKindOf field shapeField frameField memoryPacket wordPacket rising endField blocks fieldsFor saveOf contentOf behind tagOf streamUpTo streamOf endOf shapeOf packetMeans frameMeans fieldsMean judgedOf judgedFor replayOf leading decimal hexDigits pairLine settingLine endLine textFor
+unfolding ifLt ifEq bigAt littleAt bigBytes littleBytes over overAt partOf isOutside total frameOf magnitude roundTo patternOf cutSum encoded codeOf aroundZero bitsOfCode gainByte addrAt addrBytes packetOf commandBy commandOf responseOf responseKindOf saveField shapeField frameField memoryPacket wordPacket rising endField blocks fieldsFor saveOf contentOf behind tagOf streamUpTo streamOf endOf shapeOf packetMeans frameMeans fieldsMean judgedOf judgedFor replayOf leading decimal hexDigits pairLine settingLine endLine textFor
 bench-list =
     record {
       frame-empty = refl;

@@ -10,7 +10,7 @@ use Rattle.octets.specs.Place.{placeAt}
 use Rattle.packet.specs.Frame.{frameOf}
 use Rattle.packet.specs.Receipt.{plainOf}
 use Rattle.numbers.specs.FixedPoint.{codeOf, bitsOfCode}
-use Rattle.numbers.specs.Gain.{byteOf}
+use Rattle.numbers.specs.Gain.{gainByte}
 use Rattle.fields.specs.Addr.{addrOf}
 use Rattle.commands.specs.Decode.{commandOf}
 use Rattle.commands.specs.declared.Commands.the-variants.{Read, FirLoadData, ReadMemory}
@@ -24,19 +24,19 @@ use Rattle.saves.specs.Replay.{replayOf}
 use Rattle.listed.specs.Listing.{listedInto}
 
 -- "For bare E = 2, S = 1"
-abbrev pub bare : Memory
-bare = memory (0xFF ∷ 0xFF ∷ []) (0 ∷ [])
+abbrev pub workedMemory : Memory
+workedMemory = memory (0xFF ∷ 0xFF ∷ []) (0 ∷ [])
 
-abbrev pub worked : List ℕ
-worked =
+abbrev pub workedSave : List ℕ
+workedSave =
     0x01 ∷ 0x00 ∷ 0x08 ∷ 0x00 ∷ 0x00 ∷ 0x00 ∷ 0x02 ∷ 0x00 ∷ 0x00 ∷ 0x00 ∷ 0x01
     ∷ 0x10 ∷ 0x00 ∷ 0x07 ∷ 0x06 ∷ 0x04 ∷ 0x00 ∷ 0x00 ∷ 0xFF ∷ 0xFF ∷ 0x08
     ∷ 0x10 ∷ 0x00 ∷ 0x0A ∷ 0x09 ∷ 0x13 ∷ 0x80 ∷ 0x00 ∷ 0x00 ∷ 0x00 ∷ 0x00 ∷ 0x00 ∷ 0x00 ∷ 0x9C
     ∷ 0x7F ∷ 0x00 ∷ 0x04 ∷ 0x00 ∷ 0x00 ∷ 0x00 ∷ 0x02 ∷ []
 
 -- "and the output", its four lines
-abbrev pub listed : List ℕ
-listed =
+abbrev pub workedText : List ℕ
+workedText =
     115 ∷ 104 ∷ 97 ∷ 112 ∷ 101 ∷ 32 ∷ 50 ∷ 32 ∷ 49 ∷ 10
     ∷ 109 ∷ 101 ∷ 109 ∷ 111 ∷ 114 ∷ 121 ∷ 32 ∷ 48 ∷ 32 ∷ 50 ∷ 10
     ∷ 115 ∷ 101 ∷ 116 ∷ 116 ∷ 105 ∷ 110 ∷ 103 ∷ 32 ∷ 48 ∷ 32 ∷ 48 ∷ 48 ∷ 48 ∷ 48 ∷ 48 ∷ 48 ∷ 48 ∷ 48 ∷ 10
@@ -61,9 +61,9 @@ pub record BenchList : Type 0 where
   pub codes-minus-17 : codeOf 0xC1880000 ≡ 0x07800000
   pub codes-nan : codeOf 0x7FC00000 ≡ 0x08000000
   pub decodes-16 : bitsOfCode 0x07FFFFFF ≡ 0x41800000
-  pub gain-6 : byteOf 0x40C00000 ≡ 12
+  pub gain-6 : gainByte 0x40C00000 ≡ 12
   pub reads-past-end : ReadsPastEnd
   pub response-02 : responseOf (0x02 ∷ []) ≡ refused 3
-  pub save-worked : saveOf bare ≡ worked
-  pub listing-worked : (out : List ℕ) → listedInto worked out ≡ into listed out
-  pub replay-worked : (a b c : ℕ) → replayOf (memory (a ∷ b ∷ []) (c ∷ [])) worked ≡ (accepted tt, bare)
+  pub save-worked : saveOf workedMemory ≡ workedSave
+  pub listing-worked : (out : List ℕ) → listedInto workedSave out ≡ into workedText out
+  pub replay-worked : (a b c : ℕ) → replayOf (memory (a ∷ b ∷ []) (c ∷ [])) workedSave ≡ (accepted tt, workedMemory)

@@ -10,7 +10,7 @@ use lib.Dec.{leb, ltb}
 use lib.ListN.{length}
 use Rattle.octets.specs.Outcome.{Outcome, accepted}
 use Rattle.octets.specs.Choice.{ifEq}
-use Rattle.octets.specs.Number.{at, Bytes, bigAt}
+use Rattle.octets.specs.Number.{at, Octets, bigAt}
 use Rattle.octets.specs.Reading.{needing, rest}
 use Rattle.octets.proofs.Choosing.{above, same, either-eq, lt-or-le, was-above}
 use Rattle.numbers.proofs.Gains.{gain-back}
@@ -22,8 +22,8 @@ use Rattle.fields.specs.declared.row.Field.{Field}
 use Rattle.fields.specs.declared.row.Field.the-variants.{Byte, Word, Address, Coded, Payload}
 use Rattle.fields.proofs.Addrs.{is-two, is-three}
 use Rattle.fields.proofs.Again.{From, whole, ended, byte, word, part, unknown, floats, address, value}
-use Rattle.commands.specs.Decode.{commandOf, kindOf, r, isSet, valuesAt, fiveFrom}
-use Rattle.commands.specs.Encode.{rowOf, muxByte, valuesOf}
+use Rattle.commands.specs.Decode.{commandOf, commandBy, r, isSet, valuesAt, fiveFrom}
+use Rattle.commands.specs.Encode.{commandRow, muxByte, valuesOf}
 use Rattle.commands.specs.RoundTrip.{Tidy}
 use Rattle.commands.specs.declared.Commands.{Commands}
 
@@ -43,17 +43,17 @@ right : (wide : Bool) → wrongLength (widthIf wide) ≡ false
 right true = is-three 3 (λ e. omega arith) refl
 right false = is-two 2 refl
 
-module _ (p : List ℕ) (bytes : Bytes p) (short : length p ≤ 254) (c : Commands) where
+module _ (p : List ℕ) (bytes : Octets p) (short : length p ≤ 254) (c : Commands) where
   abbrev Goal : Type 0
-  Goal = Tidy p c → encodedOf p (rowOf c (valuesAt p)) ≡ accepted p
+  Goal = Tidy p c → encodedOf p (commandRow c (valuesAt p)) ≡ accepted p
 
   -- the command that was read, and its row
-  always : (d : Commands) → accepted d ≡ accepted c → (Tidy p d → From p 0 (rowOf d (valuesAt p))) → Goal
+  always : (d : Commands) → accepted d ≡ accepted c → (Tidy p d → From p 0 (commandRow d (valuesAt p))) → Goal
   always d e f =
       let same : d ≡ c = cc in
-      subst (λ (c : Commands). Tidy p c → encodedOf p (rowOf c (valuesAt p)) ≡ accepted p) same (λ t. whole p (rowOf d (valuesAt p)) short (f t))
+      subst (λ (c : Commands). Tidy p c → encodedOf p (commandRow c (valuesAt p)) ≡ accepted p) same (λ t. whole p (commandRow d (valuesAt p)) short (f t))
 
-  given : (n : ℕ) (d : Commands) → needing n p d ≡ accepted c → (n ≤ length p → Tidy p d → From p 0 (rowOf d (valuesAt p))) → Goal
+  given : (n : ℕ) (d : Commands) → needing n p d ≡ accepted c → (n ≤ length p → Tidy p d → From p 0 (commandRow d (valuesAt p))) → Goal
   given n d e f = let b = was-above _ _ _ _ e in always d (b .1) (f (b .0))
 
   -- a place under another name
@@ -95,8 +95,8 @@ module _ (p : List ℕ) (bytes : Bytes p) (short : length p ≤ 254) (c : Comman
       rw values
       (addressed (ltb 24 (r p)) clear _ (omega arith) (word p (k + 1) _ bytes 0 (sym none) (omega arith) (from {i = k + 3} (omega arith) (five (k + 3) (omega arith)))))
 
-  by-kind : (k : ℕ) → k ≡ at p 0 → 1 ≤ length p → kindOf k p ≡ accepted c → Goal
-  unfolding kindOf addrAt
+  by-kind : (k : ℕ) → k ≡ at p 0 → 1 ≤ length p → commandBy k p ≡ accepted c → Goal
+  unfolding commandBy addrAt
   by-kind k is some =
       kind 0x02 (λ h e. given _ _ e (λ n t. first h (read-row (leb 3 (r p)) (t .1) (t .0))))
       (kind 0x04 (λ h e. given _ _ e (λ n t. first h (word p 1 _ bytes _ refl n (part p 3 _ _ (omega arith) (ended p _ (omega arith))))))
@@ -137,7 +137,7 @@ module _ (p : List ℕ) (bytes : Bytes p) (short : length p ≤ 254) (c : Comman
       word-byte : length p ≡ 4 → From p 1 (Word (bigAt 2 p 1) ∷ Byte (at p 3) ∷ [])
       word-byte h = word p 1 _ bytes _ refl (omega arith) (byte p 3 [] _ refl (omega arith) (ended p 4 (omega arith)))
 
-pub read-written : (p : List ℕ) (c : Commands) → Bytes p → commandOf p ≡ accepted c → Tidy p c → encodedOf p (rowOf c (valuesAt p)) ≡ accepted p
+pub read-written : (p : List ℕ) (c : Commands) → Octets p → commandOf p ≡ accepted c → Tidy p c → encodedOf p (commandRow c (valuesAt p)) ≡ accepted p
 unfolding commandOf
 read-written p c bytes e =
     let short = was-above _ _ _ _ e in

@@ -10,11 +10,11 @@ use Rattle.octets.proofs.Determined.{written-once}
 use Rattle.fields.specs.declared.addr.Addr.{Addr}
 use Rattle.fields.specs.declared.value.Coefficient.{Coefficient}
 use Rattle.fields.specs.declared.value.Value.{Value}
-use Rattle.commands.specs.Decode.{parsed}
+use Rattle.commands.specs.Decode.{readCommand}
 use Rattle.commands.specs.declared.Commands.{Commands}
 use Rattle.commands.specs.declared.decode.Decoded.{Decoded}
-use Rattle.commands.specs.declared.decode.Parsed.{Parsed}
-use Rattle.commands.specs.declared.decode.Parsed.the-variants.{Command, Refused}
+use Rattle.commands.specs.declared.decode.ReadCommand.{ReadCommand}
+use Rattle.commands.specs.declared.decode.ReadCommand.the-variants.{Command, Refused}
 use Rattle.commands.specs.declared.dialect.Dialect.{Dialect}
 use Rattle.commands.proofs.Commands.from_bytes.Reads as from-bytes
 use Rattle.commands.proofs.Commands.to_bytes.Reads as to-bytes
@@ -30,15 +30,15 @@ use Rattle.commands.proofs.dialect.Dialect.mute.Reads as dialect-mute
 use Rattle.commands.proofs.dialect.Dialect.invert.Reads as invert
 
 -- an answer is known by its reading
-pub parsed-once : (a b : Parsed) → parsed a ≡ parsed b → a ≡ b
-parsed-once (Command c) (Command d) e = cc
-parsed-once (Command c) (Refused k) e = cc
-parsed-once (Refused k) (Command d) e = cc
-parsed-once (Refused j) (Refused k) e = cc
+pub command-once : (a b : ReadCommand) → readCommand a ≡ readCommand b → a ≡ b
+command-once (Command c) (Command d) e = cc
+command-once (Command c) (Refused k) e = cc
+command-once (Refused k) (Command d) e = cc
+command-once (Refused j) (Refused k) e = cc
 
 pub from-bytes-fixed : Fixes Decoded from-bytes.Post (λ κs answer left. answer)
 from-bytes-fixed κs args a b x y p q =
-    let read : a .answer ≡ b .answer = parsed-once (a .answer) (b .answer) (agree (p .0) (q .0)) in
+    let read : a .answer ≡ b .answer = command-once (a .answer) (b .answer) (agree (p .0) (q .0)) in
     λ i. record { answer = read i; values = agree (p .1) (q .1) i }
 
 pub to-bytes-fixed : Fixes (Written × List ℕ) to-bytes.Post (λ κs answer left. (answer, now (left .1 .1 .1 .0)))

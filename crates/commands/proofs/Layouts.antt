@@ -13,7 +13,7 @@ use Rattle.octets.specs.Refusals.{ends}
 use Rattle.octets.specs.Outcome.{accepted, refused}
 use Rattle.octets.specs.Choice.{ifEq}
 use Rattle.octets.specs.Number.{at, bigAt, bigBytes}
-use Rattle.octets.specs.Place.{placeAt, floatsAt, partOf, outsideOf}
+use Rattle.octets.specs.Place.{placeAt, floatsAt, partOf, isOutside}
 use Rattle.octets.specs.Reading.{rest}
 use Rattle.octets.specs.declared.Place.{Place}
 use Rattle.octets.proofs.Choosing.{above, below, tests}
@@ -32,7 +32,7 @@ use Rattle.fields.proofs.Addrs.{by-length, length-addr}
 use Rattle.fields.proofs.Rows.{sound-of}
 use Rattle.fields.proofs.Settled.{Written}
 use Rattle.fields.proofs.Back.{addr-back, value-back}
-use Rattle.commands.specs.Decode.{commandOf, kindOf, valuesAt, fiveFrom}
+use Rattle.commands.specs.Decode.{commandOf, commandBy, valuesAt, fiveFrom}
 use Rattle.commands.specs.Encode.{valuesOf}
 use Rattle.commands.specs.RoundTrip.{FourEach, NoneOf, kinds}
 use Rattle.commands.specs.declared.Commands.the-variants.{WriteMemory, WriteBiquad, WriteBiquadBypass, Read, Write, FirLoadData, SwitchMux, Unknown}
@@ -40,7 +40,7 @@ use Rattle.commands.specs.declared.Commands.the-variants.{WriteMemory, W
 pub word-back : (k n : ℕ) (t : List ℕ) → n < 2 ^ 16 → bigAt 2 (k ∷ (bigBytes 2 n ++ t)) 1 ≡ n
 word-back k n t h = big-behind (k ∷ []) (bigBytes 2 n ++ t) 2 0 ∙ big-back 2 n t ∙ mod-eq-of-lt h
 
-part-length : (p : List ℕ) (place : Place) → outsideOf place (length p) ≡ false → length (partOf p place ++ []) ≡ place .len
+part-length : (p : List ℕ) (place : Place) → isOutside place (length p) ≡ false → length (partOf p place ++ []) ≡ place .len
 part-length p place h = rw append-nil (length-part p place (was-inside place (length p) h))
 
 fours : (p : List ℕ) (values : List Coefficient) → FourEach p values → length (packetOf p (valuesOf values)) ≡ length values * 4
@@ -57,7 +57,7 @@ record Headed (a : Addr) (bytes tail : List ℕ) : Type 0 where
 
 module _ (p packet : List ℕ) where
   -- by its command byte
-  pub by-kind : (k : ℕ) (fs : List Field) → Written p (Byte k ∷ fs) packet → commandOf packet ≡ kindOf k (k ∷ packetOf p fs)
+  pub by-kind : (k : ℕ) (fs : List Field) → Written p (Byte k ∷ fs) packet → commandOf packet ≡ commandBy k (k ∷ packetOf p fs)
   unfolding commandOf packetOf
   by-kind k fs w =
       let n : length (k ∷ packetOf p fs) ≤ 254 = rw (w .is) at (w .short) in
@@ -68,11 +68,11 @@ module _ (p packet : List ℕ) where
   of-payload k place w = ap (placeAt 1) (omega (arith, part-length p place (sound-of p (Byte k ∷ []) (Payload place) [] (w .sound) .placed)))
 
   pub of-unknown : (k : ℕ) (place : Place) → NoneOf k kinds → Written p (Byte k ∷ Payload place ∷ []) packet → commandOf packet ≡ accepted (Unknown k (placeAt 1 (place .len)))
-  unfolding packetOf kindOf
+  unfolding packetOf commandBy
   of-unknown k place u w = by-kind k (Payload place ∷ []) w ∙ sym (rw (← of-payload k place w) (search tests depth 30))
 
   pub of-memory : (addr : ℕ) (place : Place) → addr < 2 ^ 16 → Written p (Byte 0x04 ∷ Word addr ∷ Payload place ∷ []) packet → commandOf packet ≡ accepted (WriteMemory addr (placeAt 3 (place .len)))
-  unfolding packetOf kindOf ifEq
+  unfolding packetOf commandBy ifEq
   of-memory addr place u w =
       let t : List ℕ = partOf p place ++ [] in
       let s = sound-of p (Byte 0x04 ∷ Word addr ∷ []) (Payload place) [] (w .sound) in
@@ -81,7 +81,7 @@ module _ (p packet : List ℕ) where
       by-kind 0x04 (Word addr ∷ Payload place ∷ []) w ∙ rw (word-back 0x04 addr t u, r) (sym (above _ _ _ _ _ (omega arith) refl))
 
   pub of-floats : (index start count : ℕ) → Written p (Byte 0x3A ∷ Byte index ∷ Floats start count ∷ []) packet → commandOf packet ≡ accepted (FirLoadData index 2 (count - 1))
-  unfolding packetOf kindOf ifEq
+  unfolding packetOf commandBy ifEq
   of-floats index start count w =
       let t : List ℕ = partOf p (floatsAt start count) ++ [] in
       let s = sound-of p (Byte 0x3A ∷ Byte index ∷ []) (Floats start count) [] (w .sound) in
@@ -103,7 +103,7 @@ module _ (p packet : List ℕ) where
 
   module _ (a : Addr) where
     pub of-read : (len : ℕ) → a .len ≡ 3 → Written p (Byte 0x02 ∷ Address a ∷ Byte len ∷ []) packet → commandOf packet ≡ accepted (Read (cut a) len)
-    unfolding packetOf kindOf ifEq
+    unfolding packetOf commandBy ifEq
     of-read len e w =
         let fs : List Field = Byte len ∷ [] in
         let h = headed 0x02 a fs w in
@@ -112,7 +112,7 @@ module _ (p packet : List ℕ) where
         by-kind 0x02 (Address a ∷ fs) w ∙ rw (width, h .here, h .behind 0 (a .len + 1) (omega arith)) (sym (above _ _ _ _ _ (omega arith) refl))
 
     pub of-narrow-read : (len : ℕ) → a .len ≡ 2 → Written p (Byte 0x02 ∷ Address a ∷ Byte len ∷ []) packet → commandOf packet ≡ refused ends
-    unfolding packetOf kindOf ifEq
+    unfolding packetOf commandBy ifEq
     of-narrow-read len e w =
         let h = headed 0x02 a (Byte len ∷ []) w in
         let r : ℕ = length (0x02 ∷ packetOf p (Address a ∷ Byte len ∷ [])) - 1 in
@@ -120,7 +120,7 @@ module _ (p packet : List ℕ) where
 
     pub of-write : (v : Value) → a .len ≡ widthIf (leb 7 (a .len + length (valueBytes v p))) → Written p (Byte 0x13 ∷ Address a ∷ Coded v ∷ []) packet
         → commandOf packet ≡ accepted (Write (cut a) (reread (valueBytes v p) (a .len + 1)))
-    unfolding packetOf kindOf ifEq
+    unfolding packetOf commandBy ifEq
     of-write v e w =
         let bytes : List ℕ = valueBytes v p in
         let h = headed 0x13 a (Coded v ∷ []) w in
@@ -131,7 +131,7 @@ module _ (p packet : List ℕ) where
         by-kind 0x13 (Address a ∷ Coded v ∷ []) w ∙ rw (width, h .here, value) (sym (above _ _ _ _ _ (omega arith) refl))
 
     pub of-bypass : Written p (Byte 0x19 ∷ Address a ∷ []) packet → commandOf packet ≡ accepted (WriteBiquadBypass (cut a) (a .«extra_bit»))
-    unfolding packetOf kindOf ifEq
+    unfolding packetOf commandBy ifEq
     of-bypass w =
         let h = headed 0x19 a [] w in
         let n : ℕ = length (0x19 ∷ packetOf p (Address a ∷ [])) in
@@ -140,7 +140,7 @@ module _ (p packet : List ℕ) where
         by-kind 0x19 (Address a ∷ []) w ∙ rw (width, h .here) (sym (above _ _ _ _ _ (omega arith) refl))
 
     pub of-mux : (m slot : ℕ) → a .len ≡ 2 → Written p (Byte 0x29 ∷ Address a ∷ Byte m ∷ Byte slot ∷ []) packet → commandOf packet ≡ accepted (SwitchMux (cut a) (m % 128) (leb 128 m) slot)
-    unfolding packetOf kindOf ifEq
+    unfolding packetOf commandBy ifEq
     of-mux m slot e w =
         let fs : List Field = Byte m ∷ Byte slot ∷ [] in
         let h = headed 0x29 a fs w in
@@ -158,7 +158,7 @@ module _ (p packet : List ℕ) where
           (omega (arith, fours p values u), rw r (by-length (λ k. widthIf (ltb 24 (k + 22)) ≡ k) refl refl (a .len) (h .right)))
 
       pub of-biquad : commandOf packet ≡ accepted (WriteBiquad (cut a))
-      unfolding kindOf ifEq
+      unfolding commandBy ifEq
       of-biquad =
           let h = headed 0x30 a (Word 0 ∷ valuesOf values) w in
           by-kind 0x30 (Address a ∷ Word 0 ∷ valuesOf values) w

@@ -13,7 +13,7 @@ use Rattle.octets.specs.Refusals.{ends}
 use Rattle.octets.specs.Outcome.{accepted, refused}
 use Rattle.octets.specs.Choice.{ifLt, ifEq, pick}
 use Rattle.octets.specs.Number.{bigBytes}
-use Rattle.octets.specs.Place.{placeAt, floatsAt, partOf, outsideOf}
+use Rattle.octets.specs.Place.{placeAt, floatsAt, partOf, isOutside}
 use Rattle.octets.specs.declared.Place.{Place}
 use Rattle.octets.proofs.Choosing.{above, other}
 use Rattle.octets.proofs.Parts.{length-part, was-inside, part-part, part-behind, part-between}
@@ -31,8 +31,8 @@ use Rattle.fields.proofs.Addrs.{length-addr}
 use Rattle.fields.proofs.Rows.{sound-of, stands, packet-append}
 use Rattle.fields.proofs.Settled.{Written, was-written}
 use Rattle.fields.proofs.Back.{cut-whole, int-back}
-use Rattle.commands.specs.Decode.{commandOf, kindOf, isSet, gainOf, valuesAt, noValues, fiveFrom, coefficient}
-use Rattle.commands.specs.Encode.{rowOf, muxByte, valuesOf}
+use Rattle.commands.specs.Decode.{commandOf, commandBy, isSet, gainOf, valuesAt, noValues, fiveFrom, coefficient}
+use Rattle.commands.specs.Encode.{commandRow, muxByte, valuesOf}
 use Rattle.commands.specs.RoundTrip.{back, Readable, FourEach}
 use Rattle.commands.specs.declared.Commands.{Commands}
 use Rattle.commands.specs.declared.Commands.the-variants.{ReadHardwareId, ReadFloats, WriteMemory, ReadMemory, SetConfig, SetSource, SetMute, SetVolume, WriteBiquad, WriteBiquadBypass, Read, Write, FirLoadStart, FirLoadData, FirLoadEnd, DiracBypass, BulkLoad, BulkLoadFilterData, Unk07, SwitchMux, Unknown}
@@ -59,8 +59,8 @@ nth p (c ∷ cs) u (suc i) h =
     rw e (part-behind (valueBytes (c .value) p) (packetOf p (valuesOf cs)) (i * 4) 4 ∙ nth p cs (u .1) i (le-of-suc-le-suc h))
 
 module _ (p : List ℕ) (values : List Coefficient) (packet : List ℕ) where
-  reads : (c : Commands) → Readable p values c → Written p (rowOf c values) packet → commandOf packet ≡ accepted (back p c)
-  unfolding packetOf kindOf ifEq ifLt bigBytes
+  reads : (c : Commands) → Readable p values c → Written p (commandRow c values) packet → commandOf packet ≡ accepted (back p c)
+  unfolding packetOf commandBy ifEq ifLt bigBytes
   reads ReadHardwareId u w = by-kind p packet _ _ w
   reads (ReadFloats addr len) u w = by-kind p packet _ _ w ∙ ap (λ (n : ℕ). accepted (ReadFloats n len)) (word-back 0x14 addr (len ∷ []) u)
   reads (WriteMemory addr place) u w = of-memory p packet addr place u w
@@ -83,15 +83,15 @@ module _ (p : List ℕ) (values : List Coefficient) (packet : List ℕ) where
   reads (SwitchMux addr max arg slot) u w = of-mux p packet addr (muxByte max arg) slot u w ∙ rw (mux max arg .0, mux max arg .1)
   reads (Unknown id payload) u w = of-unknown p packet id payload u w
 
-  pub written-read : (c : Commands) → Readable p values c → encodedOf p (rowOf c values) ≡ accepted packet → commandOf packet ≡ accepted (back p c)
-  written-read c u e = reads c u (was-written p (rowOf c values) packet e)
+  pub written-read : (c : Commands) → Readable p values c → encodedOf p (commandRow c values) ≡ accepted packet → commandOf packet ≡ accepted (back p c)
+  written-read c u e = reads c u (was-written p (commandRow c values) packet e)
 
   -- "So r = 3 is refused with 3"
-  pub narrow-read : (addr : Addr) (len : ℕ) → addr .len ≡ 2 → encodedOf p (rowOf (Read addr len) values) ≡ accepted packet → commandOf packet ≡ refused ends
-  narrow-read addr len h e = of-narrow-read p packet addr len h (was-written p (rowOf (Read addr len) values) packet e)
+  pub narrow-read : (addr : Addr) (len : ℕ) → addr .len ≡ 2 → encodedOf p (commandRow (Read addr len) values) ≡ accepted packet → commandOf packet ≡ refused ends
+  narrow-read addr len h e = of-narrow-read p packet addr len h (was-written p (commandRow (Read addr len) values) packet e)
 
   -- ---- the bytes at the places that come back are those that were written
-  inside : (place : Place) → outsideOf place (length p) ≡ false → place .len ≡ length (partOf p place)
+  inside : (place : Place) → isOutside place (length p) ≡ false → place .len ≡ length (partOf p place)
   inside place h = sym (length-part p place (was-inside place (length p) h))
 
   part-kept : (before : List Field) (place : Place) (n : ℕ) → n ≡ length (packetOf p before) → encodedOf p (before ++ (Payload place ∷ [])) ≡ accepted packet → partOf packet (placeAt n (place .len)) ≡ partOf p place
@@ -103,22 +103,22 @@ module _ (p : List ℕ) (values : List Coefficient) (packet : List ℕ) where
   unfolding packetOf
   payload-kept k place = part-kept (Byte k ∷ []) place 1 refl
 
-  pub memory-kept : (addr : ℕ) (place : Place) → encodedOf p (rowOf (WriteMemory addr place) values) ≡ accepted packet → partOf packet (placeAt 3 (place .len)) ≡ partOf p place
+  pub memory-kept : (addr : ℕ) (place : Place) → encodedOf p (commandRow (WriteMemory addr place) values) ≡ accepted packet → partOf packet (placeAt 3 (place .len)) ≡ partOf p place
   unfolding packetOf bigBytes
   memory-kept addr place = part-kept (Byte 0x04 ∷ Word addr ∷ []) place 3 refl
 
-  pub dirac-kept : (value : ℕ) → encodedOf p (rowOf (DiracBypass value) values) ≡ accepted packet → partOf packet (placeAt 1 1) ≡ value ∷ []
+  pub dirac-kept : (value : ℕ) → encodedOf p (commandRow (DiracBypass value) values) ≡ accepted packet → partOf packet (placeAt 1 1) ≡ value ∷ []
   unfolding packetOf
-  dirac-kept value e = rw (was-written p (rowOf (DiracBypass value) values) packet e .is) (stands p (Byte 0x3F ∷ []) [] (Byte value) 1 1 refl refl)
+  dirac-kept value e = rw (was-written p (commandRow (DiracBypass value) values) packet e .is) (stands p (Byte 0x3F ∷ []) [] (Byte value) 1 1 refl refl)
 
-  pub value-kept : (addr : Addr) (value : Value) → encodedOf p (rowOf (Write addr value) values) ≡ accepted packet → partOf packet (placeAt (addr .len + 1) (length (valueBytes value p))) ≡ valueBytes value p
+  pub value-kept : (addr : Addr) (value : Value) → encodedOf p (commandRow (Write addr value) values) ≡ accepted packet → partOf packet (placeAt (addr .len + 1) (length (valueBytes value p))) ≡ valueBytes value p
   unfolding packetOf
   value-kept addr value e =
       let w = was-written p (Byte 0x13 ∷ Address addr ∷ Coded value ∷ []) packet e in
       let n : addr .len + 1 ≡ length (0x13 ∷ (addrBytes addr ++ [])) = omega (arith, length-addr addr, length-append (addrBytes addr) []) in
       rw (w .is) (stands p (Byte 0x13 ∷ Address addr ∷ []) [] (Coded value) (addr .len + 1) (length (valueBytes value p)) n refl)
 
-  pub floats-kept : (index start count : ℕ) → encodedOf p (rowOf (FirLoadData index start count) values) ≡ accepted packet
+  pub floats-kept : (index start count : ℕ) → encodedOf p (commandRow (FirLoadData index start count) values) ≡ accepted packet
       → partOf packet (floatsAt 2 (count - 1)) ≡ partOf p (floatsAt start (count - 1))
   unfolding packetOf
   floats-kept index start count e =
@@ -131,11 +131,11 @@ module _ (p : List ℕ) (values : List Coefficient) (packet : List ℕ) where
       ∙ rw all (sym (rw add-zero at (part-part p start (count * 4) 0 ((count - 1) * 4) (was-inside whole (length p) placed) (omega arith))))
 
   -- the five values of a biquad stand beside the command that comes back, each where its bytes stand
-  pub values-kept : (addr : Addr) → Readable p values (WriteBiquad addr) → encodedOf p (rowOf (WriteBiquad addr) values) ≡ accepted packet
+  pub values-kept : (addr : Addr) → Readable p values (WriteBiquad addr) → encodedOf p (commandRow (WriteBiquad addr) values) ≡ accepted packet
       → (valuesAt packet ≡ fiveFrom (addr .len + 3)) × ((i : ℕ) → i < 5 → partOf packet (placeAt (addr .len + 3 + i * 4) 4) ≡ valueBytes (getD values i noValue .value) p)
   unfolding packetOf bigBytes
   values-kept addr u e =
-      let w = was-written p (rowOf (WriteBiquad addr) values) packet e in
+      let w = was-written p (commandRow (WriteBiquad addr) values) packet e in
       let front : List ℕ = packetOf p (Byte 0x30 ∷ Address addr ∷ Word 0 ∷ []) in
       let n : addr .len + 3 ≡ length front = omega (arith, length-addr addr, length-append (addrBytes addr) (0 ∷ 0 ∷ [])) in
       let split : packet ≡ front ++ packetOf p (valuesOf values) = w .is ∙ packet-append p (Byte 0x30 ∷ Address addr ∷ Word 0 ∷ []) (valuesOf values) in (

@@ -20,12 +20,12 @@ use Rattle.fields.specs.declared.value.Value.the-variants.{Float, Unknown as Un
 use Rattle.fields.specs.declared.value.Coefficient.{Coefficient}
 use Rattle.commands.specs.declared.Commands.{Commands}
 use Rattle.commands.specs.declared.Commands.the-variants.{ReadHardwareId, ReadFloats, WriteMemory, ReadMemory, SetConfig, SetSource, SetMute, SetVolume, WriteBiquad, WriteBiquadBypass, Read, Write, FirLoadStart, FirLoadData, FirLoadEnd, BulkLoad, BulkLoadFilterData, Unk07, SwitchMux, Unknown}
-use Rattle.commands.specs.declared.decode.Parsed.{Parsed}
-use Rattle.commands.specs.declared.decode.Parsed.the-variants.{Command, Refused}
+use Rattle.commands.specs.declared.decode.ReadCommand.{ReadCommand}
+use Rattle.commands.specs.declared.decode.ReadCommand.the-variants.{Command, Refused}
 
-abbrev pub parsed : Parsed → Outcome Commands
-parsed (Command c) = accepted c
-parsed (Refused k) = refused k
+abbrev pub readCommand : ReadCommand → Outcome Commands
+readCommand (Command c) = accepted c
+readCommand (Refused k) = refused k
 
 -- "r is the count of bytes after the command byte"
 abbrev pub r : List ℕ → ℕ
@@ -91,8 +91,8 @@ abbrev pub setVolumeOf : List ℕ → Outcome Commands
 setVolumeOf p = needing 2 p (SetVolume (gainOf (at p 1)))
 
 -- by the command byte; "0x3F is written by DiracBypass but read as Unknown"
-unfoldable pub kindOf : ℕ → List ℕ → Outcome Commands
-kindOf k p =
+unfoldable pub commandBy : ℕ → List ℕ → Outcome Commands
+commandBy k p =
     ifEq k 0x02 (readOf p)
     (ifEq k 0x04 (writeMemoryOf p)
     (ifEq k 0x05 (readMemoryOf p)
@@ -116,7 +116,7 @@ kindOf k p =
 
 -- "packet over 254 bytes" first, then the packet
 unfoldable pub commandOf : List ℕ → Outcome Commands
-commandOf p = ifLt 254 (length p) (refused tooLong) (ifLt (length p) 1 (refused ends) (kindOf (at p 0) p))
+commandOf p = ifLt 254 (length p) (refused tooLong) (ifLt (length p) 1 (refused ends) (commandBy (at p 0) p))
 
 -- ---- the five values beside a command
 

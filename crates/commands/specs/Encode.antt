@@ -3,7 +3,7 @@ use Prim.Native.Nat.{ℕ, _+_, _%_}
 use mathlib.Core.Bool.{Bool, true, false}
 use mathlib.Core.List.{List, [], _∷_}
 use lib.Ieee.{binary32, toBits}
-use Rattle.numbers.specs.Gain.{byteOf}
+use Rattle.numbers.specs.Gain.{gainByte}
 use Rattle.fields.specs.Addr.{addrOf, bit}
 use Rattle.fields.specs.declared.row.Field.{Field}
 use Rattle.fields.specs.declared.row.Field.the-variants.{Byte, Word, Address, Coded, Payload, Floats}
@@ -21,25 +21,25 @@ abbrev pub valuesOf : List Coefficient → List Field
 valuesOf [] = []
 valuesOf (c ∷ cs) = Coded (c .value) ∷ valuesOf cs
 
-abbrev pub rowOf : Commands → List Coefficient → List Field
-rowOf ReadHardwareId values = Byte 0x31 ∷ []
-rowOf (ReadFloats addr len) values = Byte 0x14 ∷ Word addr ∷ Byte len ∷ []
-rowOf (WriteMemory addr place) values = Byte 0x04 ∷ Word addr ∷ Payload place ∷ []
-rowOf (ReadMemory addr size) values = Byte 0x05 ∷ Word addr ∷ Byte size ∷ []
-rowOf (SetConfig config reset) values = Byte 0x25 ∷ Byte config ∷ Byte (bit reset) ∷ []
-rowOf (SetSource source) values = Byte 0x34 ∷ Byte source ∷ []
-rowOf (SetMute value) values = Byte 0x17 ∷ Byte (bit value) ∷ []
-rowOf (SetVolume gain) values = Byte 0x42 ∷ Byte (byteOf (toBits binary32 (gain .0))) ∷ []
-rowOf (WriteBiquad addr) values = Byte 0x30 ∷ Address addr ∷ Word 0 ∷ valuesOf values
-rowOf (WriteBiquadBypass addr value) values = Byte 0x19 ∷ Address (addrOf (addr .val) (addr .len) value) ∷ []
-rowOf (Read addr len) values = Byte 0x02 ∷ Address addr ∷ Byte len ∷ []
-rowOf (Write addr value) values = Byte 0x13 ∷ Address addr ∷ Coded value ∷ []
-rowOf (FirLoadStart index) values = Byte 0x39 ∷ Byte index ∷ []
-rowOf (FirLoadData index start count) values = Byte 0x3A ∷ Byte index ∷ Floats start count ∷ []
-rowOf FirLoadEnd values = Byte 0x3B ∷ []
-rowOf (DiracBypass value) values = Byte 0x3F ∷ Byte value ∷ []
-rowOf (BulkLoad payload) values = Byte 0x12 ∷ Payload payload ∷ []
-rowOf (BulkLoadFilterData payload) values = Byte 0x06 ∷ Payload payload ∷ []
-rowOf (Unk07 payload) values = Byte 0x07 ∷ Byte payload ∷ []
-rowOf (SwitchMux addr max arg slot) values = Byte 0x29 ∷ Address addr ∷ Byte (muxByte max arg) ∷ Byte slot ∷ []
-rowOf (Unknown id payload) values = Byte id ∷ Payload payload ∷ []
+abbrev pub commandRow : Commands → List Coefficient → List Field
+commandRow ReadHardwareId values = Byte 0x31 ∷ []
+commandRow (ReadFloats addr len) values = Byte 0x14 ∷ Word addr ∷ Byte len ∷ []
+commandRow (WriteMemory addr place) values = Byte 0x04 ∷ Word addr ∷ Payload place ∷ []
+commandRow (ReadMemory addr size) values = Byte 0x05 ∷ Word addr ∷ Byte size ∷ []
+commandRow (SetConfig config reset) values = Byte 0x25 ∷ Byte config ∷ Byte (bit reset) ∷ []
+commandRow (SetSource source) values = Byte 0x34 ∷ Byte source ∷ []
+commandRow (SetMute value) values = Byte 0x17 ∷ Byte (bit value) ∷ []
+commandRow (SetVolume gain) values = Byte 0x42 ∷ Byte (gainByte (toBits binary32 (gain .0))) ∷ []
+commandRow (WriteBiquad addr) values = Byte 0x30 ∷ Address addr ∷ Word 0 ∷ valuesOf values
+commandRow (WriteBiquadBypass addr value) values = Byte 0x19 ∷ Address (addrOf (addr .val) (addr .len) value) ∷ []
+commandRow (Read addr len) values = Byte 0x02 ∷ Address addr ∷ Byte len ∷ []
+commandRow (Write addr value) values = Byte 0x13 ∷ Address addr ∷ Coded value ∷ []
+commandRow (FirLoadStart index) values = Byte 0x39 ∷ Byte index ∷ []
+commandRow (FirLoadData index start count) values = Byte 0x3A ∷ Byte index ∷ Floats start count ∷ []
+commandRow FirLoadEnd values = Byte 0x3B ∷ []
+commandRow (DiracBypass value) values = Byte 0x3F ∷ Byte value ∷ []
+commandRow (BulkLoad payload) values = Byte 0x12 ∷ Payload payload ∷ []
+commandRow (BulkLoadFilterData payload) values = Byte 0x06 ∷ Payload payload ∷ []
+commandRow (Unk07 payload) values = Byte 0x07 ∷ Byte payload ∷ []
+commandRow (SwitchMux addr max arg slot) values = Byte 0x29 ∷ Address addr ∷ Byte (muxByte max arg) ∷ Byte slot ∷ []
+commandRow (Unknown id payload) values = Byte id ∷ Payload payload ∷ []

@@ -9,7 +9,7 @@ use lib.Ieee.{binary32, toBits}
 use Rattle.octets.specs.Choice.{pick}
 use Rattle.octets.specs.Number.{at, bigAt}
 use Rattle.octets.specs.Place.{placeAt}
-use Rattle.numbers.specs.Gain.{byteOf}
+use Rattle.numbers.specs.Gain.{gainByte}
 use Rattle.fields.specs.Addr.{addrOf, widthIf}
 use Rattle.fields.specs.Value.{valueBytes}
 use Rattle.fields.specs.Back.{cut, reread, Clear}
@@ -29,7 +29,7 @@ back p (ReadMemory addr size) = ReadMemory addr size
 back p (SetConfig config reset) = SetConfig config reset
 back p (SetSource source) = SetSource source
 back p (SetMute value) = SetMute value
-back p (SetVolume gain) = SetVolume (gainOf (byteOf (toBits binary32 (gain .0))))
+back p (SetVolume gain) = SetVolume (gainOf (gainByte (toBits binary32 (gain .0))))
 back p (WriteBiquad addr) = WriteBiquad (cut addr)
 back p (WriteBiquadBypass addr value) = WriteBiquadBypass (cut (addrOf (addr .val) (addr .len) value)) value
 back p (Read addr len) = Read (cut addr) len

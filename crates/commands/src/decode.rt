@@ -4,7 +4,7 @@ ghost use Prim.Native.Nat.{_≤_, _<_};
 ghost use mathlib.Core.Bool.{not};
 ghost use lib.ListN.{length};
 ghost use Rattle.octets.specs.Reading.{needing as needed};
-ghost use Rattle.commands.specs.Decode.{parsed, isSet, readOf, writeMemoryOf, readMemoryOf, unk07Of, writeOf, readFloatsOf, setMuteOf, bypassOf, setConfigOf, switchMuxOf, biquadOf, setSourceOf, firStartOf, firDataOf, setVolumeOf, kindOf, commandOf, noValues, unknownAt, fiveFrom, valuesAt};
+ghost use Rattle.commands.specs.Decode.{readCommand, isSet, readOf, writeMemoryOf, readMemoryOf, unk07Of, writeOf, readFloatsOf, setMuteOf, bypassOf, setConfigOf, switchMuxOf, biquadOf, setSourceOf, firStartOf, firDataOf, setVolumeOf, commandBy, commandOf, noValues, unknownAt, fiveFrom, valuesAt};
 use crate::Commands;
 use fields::addr::Addr;
 use fields::value::Coefficient;
@@ -15,21 +15,21 @@ use octets::number;
 use octets::refusal;
 
 // A command that was read, or the number of the refusal.
-pub enum Parsed {
+pub enum ReadCommand {
     Command(Commands),
     Refused(u8),
 }
 
 // The same, with the values that stand beside a command.
 pub struct Decoded {
-    pub answer: Parsed,
+    pub answer: ReadCommand,
     pub values: [Coefficient; 5],
 }
 
 impl Commands {
     // Reads a packet. A payload of the command stands in the packet.
     pub fn from_bytes(packet: &[u8]) -> Decoded
-        ensures { λ r. ⌜ (parsed (r .answer) ≡ commandOf (now (packet .entry))) × (r .values ≡ valuesAt (now (packet .entry))) ⌝ }
+        ensures { λ r. ⌜ (readCommand (r .answer) ≡ commandOf (now (packet .entry))) × (r .values ≡ valuesAt (now (packet .entry))) ⌝ }
     {
         let answer = command_of(packet);
         let values = values_at(packet);
@@ -37,31 +37,31 @@ impl Commands {
     }
 }
 
-fn command_of(packet: &[u8]) -> Parsed
-    ensures { λ r. ⌜ parsed r ≡ commandOf (now (packet .entry)) ⌝ }
+fn command_of(packet: &[u8]) -> ReadCommand
+    ensures { λ r. ⌜ readCommand r ≡ commandOf (now (packet .entry)) ⌝ }
 {
     if packet::LONGEST_PACKET < packet.len() {
-        return Parsed::Refused(refusal::TOO_LONG);
+        return ReadCommand::Refused(refusal::TOO_LONG);
     }
     if packet.len() < 1 {
-        return Parsed::Refused(refusal::ENDS);
+        return ReadCommand::Refused(refusal::ENDS);
     }
-    by_kind(number::byte(packet, 0), packet)
+    command_by(number::byte(packet, 0), packet)
 }
 
-fn by_kind(kind: u8, p: &[u8]) -> Parsed
+fn command_by(kind: u8, p: &[u8]) -> ReadCommand
     requires { ⌜ 1 ≤ length (now p) ⌝ }
-    ensures { λ r. ⌜ parsed r ≡ kindOf kind (now (p .entry)) ⌝ }
+    ensures { λ r. ⌜ readCommand r ≡ commandBy kind (now (p .entry)) ⌝ }
 {
     match kind {
         0x02 => parse_read(p),
         0x04 => parse_write_memory(p),
         0x05 => parse_read_memory(p),
-        0x06 => Parsed::Command(Commands::BulkLoadFilterData {
+        0x06 => ReadCommand::Command(Commands::BulkLoadFilterData {
             payload: octets::rest_of(p, 1),
         }),
         0x07 => parse_unk07(p),
-        0x12 => Parsed::Command(Commands::BulkLoad {
+        0x12 => ReadCommand::Command(Commands::BulkLoad {
             payload: octets::rest_of(p, 1),
         }),
         0x13 => parse_write(p),
@@ -69,15 +69,15 @@ fn by_kind(kind: u8, p: &[u8]) -> Parsed
         0x17 => parse_set_mute(p),
         0x19 => parse_bypass(p),
         0x25 => parse_set_config(p),
-        0x31 => Parsed::Command(Commands::ReadHardwareId),
+        0x31 => ReadCommand::Command(Commands::ReadHardwareId),
         0x29 => parse_switch_mux(p),
         0x30 => parse_biquad(p),
         0x34 => parse_set_source(p),
         0x39 => parse_fir_start(p),
         0x3a => parse_fir_data(p),
-        0x3b => Parsed::Command(Commands::FirLoadEnd),
+        0x3b => ReadCommand::Command(Commands::FirLoadEnd),
         0x42 => parse_set_volume(p),
-        _ => Parsed::Command(Commands::Unknown {
+        _ => ReadCommand::Command(Commands::Unknown {
             cmd_id: kind,
             payload: octets::rest_of(p, 1),
         }),
@@ -85,13 +85,13 @@ fn by_kind(kind: u8, p: &[u8]) -> Parsed
 }
 
 // The command, where the packet has the n bytes that it needs.
-fn needing(p: &[u8], n: usize, command: Commands) -> Parsed
-    ensures { λ r. ⌜ parsed r ≡ needed n (now (p .entry)) command ⌝ }
+fn needing(p: &[u8], n: usize, command: Commands) -> ReadCommand
+    ensures { λ r. ⌜ readCommand r ≡ needed n (now (p .entry)) command ⌝ }
 {
     if p.len() < n {
-        return Parsed::Refused(refusal::ENDS);
+        return ReadCommand::Refused(refusal::ENDS);
     }
-    Parsed::Command(command)
+    ReadCommand::Command(command)
 }
 
 fn is_set(byte: u8) -> bool
@@ -100,9 +100,9 @@ fn is_set(byte: u8) -> bool
     byte != 0
 }
 
-fn parse_read(p: &[u8]) -> Parsed
+fn parse_read(p: &[u8]) -> ReadCommand
     requires { ⌜ 1 ≤ length (now p) ⌝ }
-    ensures { λ r. ⌜ parsed r ≡ readOf (now (p .entry)) ⌝ }
+    ensures { λ r. ⌜ readCommand r ≡ readOf (now (p .entry)) ⌝ }
 {
     let wide = 3 <= p.len() - 1;
     let k = Addr::width(wide);
@@ -111,32 +111,32 @@ fn parse_read(p: &[u8]) -> Parsed
     needing(p, k + 2, Commands::Read { addr, len })
 }
 
-fn parse_write_memory(p: &[u8]) -> Parsed
-    ensures { λ r. ⌜ parsed r ≡ writeMemoryOf (now (p .entry)) ⌝ }
+fn parse_write_memory(p: &[u8]) -> ReadCommand
+    ensures { λ r. ⌜ readCommand r ≡ writeMemoryOf (now (p .entry)) ⌝ }
 {
     let addr = number::big16(p, 1);
     let data = octets::rest_of(p, 3);
     needing(p, 3, Commands::WriteMemory { addr, data })
 }
 
-fn parse_read_memory(p: &[u8]) -> Parsed
-    ensures { λ r. ⌜ parsed r ≡ readMemoryOf (now (p .entry)) ⌝ }
+fn parse_read_memory(p: &[u8]) -> ReadCommand
+    ensures { λ r. ⌜ readCommand r ≡ readMemoryOf (now (p .entry)) ⌝ }
 {
     let addr = number::big16(p, 1);
     let size = number::byte(p, 3);
     needing(p, 4, Commands::ReadMemory { addr, size })
 }
 
-fn parse_unk07(p: &[u8]) -> Parsed
-    ensures { λ r. ⌜ parsed r ≡ unk07Of (now (p .entry)) ⌝ }
+fn parse_unk07(p: &[u8]) -> ReadCommand
+    ensures { λ r. ⌜ readCommand r ≡ unk07Of (now (p .entry)) ⌝ }
 {
     let payload = number::byte(p, 1);
     needing(p, 2, Commands::Unk07 { payload })
 }
 
-fn parse_write(p: &[u8]) -> Parsed
+fn parse_write(p: &[u8]) -> ReadCommand
     requires { ⌜ 1 ≤ length (now p) ⌝ }
-    ensures { λ r. ⌜ parsed r ≡ writeOf (now (p .entry)) ⌝ }
+    ensures { λ r. ⌜ readCommand r ≡ writeOf (now (p .entry)) ⌝ }
 {
     let wide = 7 <= p.len() - 1;
     let k = Addr::width(wide);
@@ -145,24 +145,24 @@ fn parse_write(p: &[u8]) -> Parsed
     needing(p, k + 1, Commands::Write { addr, value })
 }
 
-fn parse_read_floats(p: &[u8]) -> Parsed
-    ensures { λ r. ⌜ parsed r ≡ readFloatsOf (now (p .entry)) ⌝ }
+fn parse_read_floats(p: &[u8]) -> ReadCommand
+    ensures { λ r. ⌜ readCommand r ≡ readFloatsOf (now (p .entry)) ⌝ }
 {
     let addr = number::big16(p, 1);
     let len = number::byte(p, 3);
     needing(p, 4, Commands::ReadFloats { addr, len })
 }
 
-fn parse_set_mute(p: &[u8]) -> Parsed
-    ensures { λ r. ⌜ parsed r ≡ setMuteOf (now (p .entry)) ⌝ }
+fn parse_set_mute(p: &[u8]) -> ReadCommand
+    ensures { λ r. ⌜ readCommand r ≡ setMuteOf (now (p .entry)) ⌝ }
 {
     let value = is_set(number::byte(p, 1));
     needing(p, 2, Commands::SetMute { value })
 }
 
-fn parse_bypass(p: &[u8]) -> Parsed
+fn parse_bypass(p: &[u8]) -> ReadCommand
     requires { ⌜ 1 ≤ length (now p) ⌝ }
-    ensures { λ r. ⌜ parsed r ≡ bypassOf (now (p .entry)) ⌝ }
+    ensures { λ r. ⌜ readCommand r ≡ bypassOf (now (p .entry)) ⌝ }
 {
     let wide = 2 < p.len() - 1;
     let k = Addr::width(wide);
@@ -171,16 +171,16 @@ fn parse_bypass(p: &[u8]) -> Parsed
     needing(p, k + 1, Commands::WriteBiquadBypass { addr, value })
 }
 
-fn parse_set_config(p: &[u8]) -> Parsed
-    ensures { λ r. ⌜ parsed r ≡ setConfigOf (now (p .entry)) ⌝ }
+fn parse_set_config(p: &[u8]) -> ReadCommand
+    ensures { λ r. ⌜ readCommand r ≡ setConfigOf (now (p .entry)) ⌝ }
 {
     let config = number::byte(p, 1);
     let reset = is_set(number::byte(p, 2));
     needing(p, 3, Commands::SetConfig { config, reset })
 }
 
-fn parse_switch_mux(p: &[u8]) -> Parsed
-    ensures { λ r. ⌜ parsed r ≡ switchMuxOf (now (p .entry)) ⌝ }
+fn parse_switch_mux(p: &[u8]) -> ReadCommand
+    ensures { λ r. ⌜ readCommand r ≡ switchMuxOf (now (p .entry)) ⌝ }
 {
     let addr = Addr::at(p, 1, false);
     let mux = number::byte(p, 3);
@@ -197,38 +197,38 @@ fn parse_switch_mux(p: &[u8]) -> Parsed
     )
 }
 
-fn parse_biquad(p: &[u8]) -> Parsed
+fn parse_biquad(p: &[u8]) -> ReadCommand
     requires { ⌜ 1 ≤ length (now p) ⌝ }
-    ensures { λ r. ⌜ parsed r ≡ biquadOf (now (p .entry)) ⌝ }
+    ensures { λ r. ⌜ readCommand r ≡ biquadOf (now (p .entry)) ⌝ }
 {
     let wide = 24 < p.len() - 1;
     let k = Addr::width(wide);
     if p.len() < k + 3 {
-        return Parsed::Refused(refusal::ENDS);
+        return ReadCommand::Refused(refusal::ENDS);
     }
     if p.len() < k + 23 {
-        return Parsed::Refused(refusal::FEW_VALUES);
+        return ReadCommand::Refused(refusal::FEW_VALUES);
     }
     let addr = Addr::at(p, 1, wide);
-    Parsed::Command(Commands::WriteBiquad { addr })
+    ReadCommand::Command(Commands::WriteBiquad { addr })
 }
 
-fn parse_set_source(p: &[u8]) -> Parsed
-    ensures { λ r. ⌜ parsed r ≡ setSourceOf (now (p .entry)) ⌝ }
+fn parse_set_source(p: &[u8]) -> ReadCommand
+    ensures { λ r. ⌜ readCommand r ≡ setSourceOf (now (p .entry)) ⌝ }
 {
     let source = number::byte(p, 1);
     needing(p, 2, Commands::SetSource { source })
 }
 
-fn parse_fir_start(p: &[u8]) -> Parsed
-    ensures { λ r. ⌜ parsed r ≡ firStartOf (now (p .entry)) ⌝ }
+fn parse_fir_start(p: &[u8]) -> ReadCommand
+    ensures { λ r. ⌜ readCommand r ≡ firStartOf (now (p .entry)) ⌝ }
 {
     let index = number::byte(p, 1);
     needing(p, 2, Commands::FirLoadStart { index })
 }
 
-fn parse_fir_data(p: &[u8]) -> Parsed
-    ensures { λ r. ⌜ parsed r ≡ firDataOf (now (p .entry)) ⌝ }
+fn parse_fir_data(p: &[u8]) -> ReadCommand
+    ensures { λ r. ⌜ readCommand r ≡ firDataOf (now (p .entry)) ⌝ }
 {
     let index = number::byte(p, 1);
     let count = octets::rest_of(p, 3).len / 4;
@@ -243,8 +243,8 @@ fn parse_fir_data(p: &[u8]) -> Parsed
     )
 }
 
-fn parse_set_volume(p: &[u8]) -> Parsed
-    ensures { λ r. ⌜ parsed r ≡ setVolumeOf (now (p .entry)) ⌝ }
+fn parse_set_volume(p: &[u8]) -> ReadCommand
+    ensures { λ r. ⌜ readCommand r ≡ setVolumeOf (now (p .entry)) ⌝ }
 {
     let value = Gain::from_u8(number::byte(p, 1));
     needing(p, 2, Commands::SetVolume { value })

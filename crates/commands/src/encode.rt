@@ -1,12 +1,12 @@
 // Writing commands: each is a row of fields. (Commands::to_bytes)
 ghost use mathlib.Core.Path.{_≡_};
 ghost use Rattle.octets.specs.Outcome.{written};
-ghost use Rattle.fields.specs.Row.{writeInto, frameInto, fieldsOf, padded};
+ghost use Rattle.fields.specs.Row.{rowInto, rowFrameInto, fieldsOf, padded};
 ghost use mathlib.Core.List.{[], _∷_};
 ghost use Rattle.fields.specs.Addr.{addrOf};
 ghost use Rattle.fields.specs.declared.row.Field.the-variants.{Byte, Word, Address, Coded, Payload, Floats};
 ghost use Rattle.commands.specs.declared.Commands.the-variants.{WriteBiquad};
-ghost use Rattle.commands.specs.Encode.{rowOf, muxByte};
+ghost use Rattle.commands.specs.Encode.{commandRow, muxByte};
 use crate::Commands;
 use fields::addr::Addr;
 use fields::row;
@@ -19,21 +19,21 @@ use octets::Written;
 impl Commands {
     // Writes the command's packet over the start of out. A payload stands in the bytes lent beside.
     pub fn to_bytes(self, values: [Coefficient; 5], payload: &[u8], out: &mut [u8]) -> Written
-        ensures { λ r. ⌜ (written r, now (out .exit)) ≡ writeInto (now (payload .entry)) (rowOf self values) (now (out .entry)) ⌝ }
+        ensures { λ r. ⌜ (written r, now (out .exit)) ≡ rowInto (now (payload .entry)) (commandRow self values) (now (out .entry)) ⌝ }
     {
-        row::write(row_of(self, values), payload, out)
+        row::write(command_row(self, values), payload, out)
     }
 
     // Writes the command's frame.
     pub fn to_frame(self, values: [Coefficient; 5], payload: &[u8], out: &mut [u8]) -> Written
-        ensures { λ r. ⌜ (written r, now (out .exit)) ≡ frameInto (now (payload .entry)) (rowOf self values) (now (out .entry)) ⌝ }
+        ensures { λ r. ⌜ (written r, now (out .exit)) ≡ rowFrameInto (now (payload .entry)) (commandRow self values) (now (out .entry)) ⌝ }
     {
-        row::frame(row_of(self, values), payload, out)
+        row::frame(command_row(self, values), payload, out)
     }
 }
 
-fn row_of(command: Commands, values: [Coefficient; 5]) -> [Cell; 8]
-    ensures { λ r. ⌜ fieldsOf r ≡ padded (rowOf command values) ⌝ }
+fn command_row(command: Commands, values: [Coefficient; 5]) -> [Cell; 8]
+    ensures { λ r. ⌜ fieldsOf r ≡ padded (commandRow command values) ⌝ }
 {
     match command {
         Commands::ReadHardwareId => row::row1(Field::Byte(0x31)),
@@ -139,7 +139,7 @@ fn mux_byte(max: u8, arg: bool) -> u8
 }
 
 fn biquad_row(addr: Addr, values: [Coefficient; 5]) -> [Cell; 8]
-    ensures { λ r. ⌜ fieldsOf r ≡ padded (rowOf (WriteBiquad addr) values) ⌝ }
+    ensures { λ r. ⌜ fieldsOf r ≡ padded (commandRow (WriteBiquad addr) values) ⌝ }
 {
     let v0 = values[0];
     let v1 = values[1];

@@ -13,11 +13,11 @@ use Rattle.packet.specs.Receipt.{plainOf}
 use Rattle.commands.specs.Decode.{commandOf}
 use Rattle.commands.specs.declared.Commands.{Commands}
 use Rattle.responses.specs.declared.Responses.{Responses}
-use Rattle.processor.specs.Memory.{Memory, Write, store, wronglySized}
+use Rattle.processor.specs.Memory.{Memory, Store, store, oversized}
 use Rattle.device.specs.Effect.{Effect}
 use Rattle.device.specs.Data.{dataOf}
-use Rattle.processor.specs.Named.{AllWithin}
-use Rattle.device.specs.Execute.{Left, refusing, ifSized, effectIn, answerInto, stored, answeredInto, recorded, commandInto, executedInto, executedRecord, packetInto, receivedInto}
+use Rattle.processor.specs.Puts.{AllWithin}
+use Rattle.device.specs.Execute.{Left, refusing, ifSized, effectIn, answerInto, storeIf, effectInto, recorded, commandInto, executedInto, executedRecord, packetInto, receivedInto}
 use Rattle.processor.specs.declared.Device.{Device}
 use Rattle.device.proofs.Effects.{within}
 
@@ -31,17 +31,17 @@ pub record Does (d : Device) (c : Commands) (p : List ℕ) (m after : Memory) : 
 module _ (m : Memory) (out : List ℕ) where
   -- what was accepted was not refused on the way
   sized : {A : Type 0} (next : Left A) {a : A} → ifSized m out next .0 ≡ accepted a → ifSized m out next ≡ next
-  sized next = go (wronglySized m)
+  sized next = go (oversized m)
     where
       go : (b : Bool) {a : _} → pick b (refused 14, m, out) next .0 ≡ accepted a → pick b (refused 14, m, out) next ≡ next
       go true e = absurd (refused-accepted e)
       go false e = refl
 
   -- an effect's answer that was written has its writes stored
-  answered : (framed : Bool) (e : Effect) (n : ℕ) → answeredInto framed m out e .0 ≡ accepted n → answeredInto framed m out e .1 ≡ store (e .writes) m
+  answered : (framed : Bool) (e : Effect) (n : ℕ) → effectInto framed m out e .0 ≡ accepted n → effectInto framed m out e .1 ≡ store (e .writes) m
   answered framed e n = go (answerInto framed (dataOf m (e .response)) (e .response) out .0)
     where
-      go : (o : Outcome ℕ) {n : ℕ} → stored (e .writes) m o .0 ≡ accepted n → stored (e .writes) m o .1 ≡ store (e .writes) m
+      go : (o : Outcome ℕ) {n : ℕ} → storeIf (e .writes) m o .0 ≡ accepted n → storeIf (e .writes) m o .1 ≡ store (e .writes) m
       go (accepted k) h = refl
       go (refused k) h = absurd (refused-accepted h)
 
@@ -52,7 +52,7 @@ module _ (m : Memory) (out : List ℕ) where
     does next h (refused k) q a g = absurd (refused-accepted g)
 
     command-does : (framed : Bool) (n : ℕ) → commandInto d framed c p m out .0 ≡ accepted n → Does d c p m (commandInto d framed c p m out .1)
-    command-does framed = does (answeredInto framed m out) (answered framed) (effectIn d p m c) refl
+    command-does framed = does (effectInto framed m out) (answered framed) (effectIn d p m c) refl
 
     pub executed-into-does : {n : ℕ} → executedInto d c p m out .0 ≡ accepted n → Does d c p m (executedInto d c p m out .1)
     executed-into-does g = let e = sized (commandInto d false c p m out) g in rw e (command-does false _ (rw e at g))

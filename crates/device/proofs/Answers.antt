@@ -7,14 +7,14 @@ use lib.ListN.{length, take, drop, length-append}
 use lib.Seq.{take-at}
 use Rattle.octets.specs.Outcome.{Outcome}
 use Rattle.octets.specs.Over.{over}
-use Rattle.processor.specs.Memory.{Memory, Write}
-use Rattle.device.specs.Execute.{Left, stored}
+use Rattle.processor.specs.Memory.{Memory, Store}
+use Rattle.device.specs.Execute.{Left, storeIf}
 
-pub settled : (ws : List Write) (m : Memory) (answer : Outcome ℕ × List ℕ) {w r : Outcome ℕ} {out : List ℕ} {n : Memory} → _≡_ {A = Outcome ℕ × List ℕ} (w, out) answer → _≡_ {A = Outcome ℕ × Memory} (r, n) (stored ws m w)
-    → _≡_ {A = Left ℕ} (r, n, out) (stored ws m (answer .0) .0, stored ws m (answer .0) .1, answer .1)
+pub settled : (ws : List Store) (m : Memory) (answer : Outcome ℕ × List ℕ) {w r : Outcome ℕ} {out : List ℕ} {n : Memory} → _≡_ {A = Outcome ℕ × List ℕ} (w, out) answer → _≡_ {A = Outcome ℕ × Memory} (r, n) (storeIf ws m w)
+    → _≡_ {A = Left ℕ} (r, n, out) (storeIf ws m (answer .0) .0, storeIf ws m (answer .0) .1, answer .1)
 settled ws m answer e s =
     let told = ap (λ (p : Outcome ℕ × List ℕ). p .0) e in
-    let left = s ∙ ap (stored ws m) told in
+    let left = s ∙ ap (storeIf ws m) told in
     λ i. (left i .0, left i .1, e i .1)
 
 -- what was written over a buffer is its first part

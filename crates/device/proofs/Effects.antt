@@ -9,7 +9,7 @@ use Rattle.octets.specs.Refusals.{outside}
 use Rattle.octets.specs.Outcome.{Outcome, accepted, refused}
 use Rattle.octets.specs.Choice.{pick, ifLt, ifEq}
 use Rattle.octets.specs.Number.{littleAt}
-use Rattle.octets.specs.Place.{partOf, outsideOf}
+use Rattle.octets.specs.Place.{partOf, isOutside}
 use Rattle.octets.specs.declared.Place.{Place}
 use Rattle.octets.proofs.Choosing.{either-lt, either-eq, refused-accepted}
 use Rattle.octets.proofs.Parts.{length-part, was-inside}
@@ -19,9 +19,9 @@ use Rattle.commands.specs.declared.Commands.{Commands}
 use Rattle.commands.specs.declared.Commands.the-variants.{ReadHardwareId, ReadFloats, WriteMemory, ReadMemory, SetConfig, SetSource, SetMute, SetVolume, WriteBiquad, WriteBiquadBypass, Read, Write as WriteCommand, FirLoadStart, FirLoadData, FirLoadEnd, DiracBypass, BulkLoad, BulkLoadFilterData, Unk07, SwitchMux, Unknown}
 use Rattle.responses.specs.declared.Responses.{Responses}
 use Rattle.responses.specs.declared.Responses.the-variants.{Ack}
-use Rattle.processor.specs.Memory.{bytes, word}
-use Rattle.device.specs.Effect.{Effect, effect, tellsOf, readMemory, readFloats, writeMemory, writeWord, setByte, effectOf}
-use Rattle.processor.specs.Named.{AllWithin}
+use Rattle.processor.specs.Memory.{toEeprom, toSettings}
+use Rattle.device.specs.Effect.{Effect, effect, tellsOf, readMemoryDoes, readFloatsDoes, writeMemoryDoes, writeDoes, setByte, effectOf}
+use Rattle.processor.specs.Puts.{AllWithin}
 use Rattle.processor.specs.declared.Device.{Device}
 
 module _ (e s : ℕ) where
@@ -37,17 +37,17 @@ module _ (e s : ℕ) where
   tells : (r : Responses) → Lies (accepted (tellsOf r))
   tells r = lies (tellsOf r) tt
 
-  of-memory : (p : List ℕ) (a : ℕ) (place : Place) → Lies (writeMemory p e a place)
-  of-memory p a place = go (outsideOf place (length p)) refl
+  of-memory : (p : List ℕ) (a : ℕ) (place : Place) → Lies (writeMemoryDoes p e a place)
+  of-memory p a place = go (isOutside place (length p)) refl
     where
-      go : (b : Bool) → outsideOf place (length p) ≡ b → Lies (pick b (refused outside) (ifLt e (a + place .len) (refused outside) (accepted (effect Ack (bytes a (partOf p place) ∷ [])))))
+      go : (b : Bool) → isOutside place (length p) ≡ b → Lies (pick b (refused outside) (ifLt e (a + place .len) (refused outside) (accepted (effect Ack (toEeprom a (partOf p place) ∷ [])))))
       go true q = never _
       go false q = either-lt Lies _ _ _ _ (λ h. never _) (λ h. lies _ (let n = length-part p place (was-inside place (length p) q) in omega (arith, n), tt))
 
-  of-word : (p : List ℕ) (a : ℕ) (v : Value) → Lies (writeWord p s a v)
+  of-word : (p : List ℕ) (a : ℕ) (v : Value) → Lies (writeDoes p s a v)
   of-word p a v = go (valueOutside v (length p))
     where
-      go : (b : Bool) → Lies (pick b (refused outside) (ifEq (length (valueBytes v p)) 4 (ifLt a s (accepted (effect Ack (word a (littleAt 4 (valueBytes v p) 0) ∷ []))) (refused outside)) (accepted (tellsOf Ack))))
+      go : (b : Bool) → Lies (pick b (refused outside) (ifEq (length (valueBytes v p)) 4 (ifLt a s (accepted (effect Ack (toSettings a (littleAt 4 (valueBytes v p) 0) ∷ []))) (refused outside)) (accepted (tellsOf Ack))))
       go true = never _
       go false = either-eq Lies _ _ _ _ (λ h. either-lt Lies _ _ _ _ (λ g. lies _ (g, tt)) (λ g. never _)) (λ h. tells _)
 

@@ -11,11 +11,11 @@ use Rattle.fields.specs.Row.{encodedOf}
 use Rattle.commands.specs.Decode.{commandOf}
 use Rattle.commands.specs.declared.Commands.{Commands}
 use Rattle.packet.specs.Receipt.{plainOf}
-use Rattle.responses.specs.Encode.{rowOf}
-use Rattle.processor.specs.Memory.{Memory, wronglySized}
+use Rattle.responses.specs.Encode.{responseRow}
+use Rattle.processor.specs.Memory.{Memory, oversized}
 use Rattle.device.specs.Effect.{Effect}
 use Rattle.device.specs.Data.{dataOf}
-use Rattle.device.specs.Execute.{Left, stored, refusing, ifSized, effectIn, formOf, answeredInto, recorded, commandInto, executedInto, executedRecord, packetInto, receivedInto}
+use Rattle.device.specs.Execute.{Left, storeIf, refusing, ifSized, effectIn, formOf, effectInto, recorded, commandInto, executedInto, executedRecord, packetInto, receivedInto}
 use Rattle.processor.specs.declared.Device.{Device}
 
 -- what is left by a refusal
@@ -28,22 +28,22 @@ module _ (m : Memory) (out : List ℕ) where
   kept-refusing (refused k) next h = λ j e. (refl, refl)
 
   kept-sized : {A : Type 0} (next : Left A) → Kept m out next → Kept m out (ifSized m out next)
-  kept-sized next h = go (wronglySized m)
+  kept-sized next h = go (oversized m)
     where
       go : (b : Bool) → Kept m out (pick b (refused 14, m, out) next)
       go true = λ k e. (refl, refl)
       go false = h
 
   -- an answer that does not go to the output leaves it, and nothing is stored
-  kept-answer : (framed : Bool) (e : Effect) → Kept m out (answeredInto framed m out e)
-  kept-answer framed e = settled (encodedOf (dataOf m (e .response)) (rowOf (e .response)))
+  kept-answer : (framed : Bool) (e : Effect) → Kept m out (effectInto framed m out e)
+  kept-answer framed e = settled (encodedOf (dataOf m (e .response)) (responseRow (e .response)))
     where
-      settled : (packet : Outcome (List ℕ)) → Kept m out (let answer = settle packet (formOf framed) out in (stored (e .writes) m (answer .0) .0, stored (e .writes) m (answer .0) .1, answer .1))
+      settled : (packet : Outcome (List ℕ)) → Kept m out (let answer = settle packet (formOf framed) out in (storeIf (e .writes) m (answer .0) .0, storeIf (e .writes) m (answer .0) .1, answer .1))
       settled (refused k) = λ j h. (refl, refl)
-      settled (accepted packet) = either-lt (λ (answer : Outcome ℕ × List ℕ). Kept m out (stored (e .writes) m (answer .0) .0, stored (e .writes) m (answer .0) .1, answer .1)) _ _ _ _ (λ h j g. (refl, refl)) (λ h j g. absurd (accepted-refused g))
+      settled (accepted packet) = either-lt (λ (answer : Outcome ℕ × List ℕ). Kept m out (storeIf (e .writes) m (answer .0) .0, storeIf (e .writes) m (answer .0) .1, answer .1)) _ _ _ _ (λ h j g. (refl, refl)) (λ h j g. absurd (accepted-refused g))
 
   kept-command : (d : Device) (framed : Bool) (c : Commands) (p : List ℕ) → Kept m out (commandInto d framed c p m out)
-  kept-command d framed c p = kept-refusing (effectIn d p m c) (answeredInto framed m out) (kept-answer framed)
+  kept-command d framed c p = kept-refusing (effectIn d p m c) (effectInto framed m out) (kept-answer framed)
 
   pub received-kept : (d : Device) (frame : List ℕ) → Kept m out (receivedInto d frame m out)
   received-kept d frame = kept-sized _ (kept-refusing (plainOf frame) _ (λ place. kept-refusing (commandOf _) _ (λ c. kept-command d true c _)))

@@ -6,7 +6,7 @@ use Rattle.responses.specs.declared.Responses.{Responses}
 use Rattle.responses.specs.declared.Responses.the-variants.{Ack, Read, MemoryData, FloatData, HardwareId, FirLoadSize, ConfigChanged, Unk02, Unknown}
 use Rattle.processor.specs.Change.{writesIn}
 use Rattle.device.specs.Effect.{Effect, effect}
-use Rattle.processor.specs.declared.write.Change.{Change}
+use Rattle.processor.specs.declared.change.Change.{Change}
 use Rattle.device.specs.declared.effect.Decided.{Decided}
 use Rattle.device.specs.declared.effect.Decided.the-variants.{Does, Refused}
 

@@ -9,10 +9,10 @@ use Rattle.octets.specs.Refusals.{outside}
 use Rattle.octets.specs.Outcome.{Outcome, accepted, refused}
 use Rattle.octets.specs.Choice.{pick, ifLt, ifEq}
 use Rattle.octets.specs.Number.{littleAt}
-use Rattle.octets.specs.Place.{placeAt, partOf, outsideOf}
+use Rattle.octets.specs.Place.{placeAt, partOf, isOutside}
 use Rattle.octets.specs.declared.Place.{Place}
-use Rattle.numbers.specs.Gain.{byteOf}
-use Rattle.facts.specs.Eeprom.{preset, source, mute, masterVolume}
+use Rattle.numbers.specs.Gain.{gainByte}
+use Rattle.facts.specs.Eeprom.{atPreset, atSource, atMute, atMasterVolume}
 use Rattle.fields.specs.Addr.{bit}
 use Rattle.fields.specs.Value.{valueBytes, valueOutside}
 use Rattle.fields.specs.declared.addr.Addr.{Addr}
@@ -21,16 +21,16 @@ use Rattle.fields.specs.declared.value.Value.the-variants.{FixedPoint}
 use Rattle.commands.specs.declared.Commands.{Commands}
 use Rattle.commands.specs.declared.Commands.the-variants.{ReadHardwareId, ReadFloats, WriteMemory, ReadMemory, SetConfig, SetSource, SetMute, SetVolume, WriteBiquad, WriteBiquadBypass, Read, Write as WriteCommand, FirLoadStart, FirLoadData, FirLoadEnd, DiracBypass, BulkLoad, BulkLoadFilterData, Unk07, SwitchMux, Unknown}
 use Rattle.responses.specs.declared.Responses.{Responses}
-use Rattle.responses.specs.declared.Responses.the-variants.{Ack, Read as ReadResponse, MemoryData, FloatData, HardwareId, FirLoadSize, ConfigChanged, Unk02}
+use Rattle.responses.specs.declared.Responses.the-variants.{Ack, Read as ReadAnswer, MemoryData, FloatData, HardwareId, FirLoadSize, ConfigChanged, Unk02}
 use Rattle.responses.specs.declared.Values.the-variants.{One}
-use Rattle.processor.specs.Memory.{Write, bytes, word}
+use Rattle.processor.specs.Memory.{Store, toEeprom, toSettings}
 use Rattle.processor.specs.declared.Device.{Device}
 
 pub record Effect : Type 0 where
   pub response : Responses
-  pub writes : List Write
+  pub writes : List Store
 
-abbrev pub effect : Responses → List Write → Effect
+abbrev pub effect : Responses → List Store → Effect
 effect response writes = record { response = response; writes = writes }
 
 -- an answer alone: "All other commands answer as `MockDevice::execute` does and name nothing."
@@ -42,50 +42,50 @@ identityOf d = HardwareId (record { «fw_major» = d .«fw_major»; «fw_minor»
 
 -- "Read answers FixedPoint 0x00287A26, the value of from_db(-10)."
 abbrev pub readingOf : Addr → Responses
-readingOf a = ReadResponse a (One (FixedPoint (record { 0 = 0x00287A26 })))
+readingOf a = ReadAnswer a (One (FixedPoint (record { 0 = 0x00287A26 })))
 
 -- "ReadMemory: if addr + size > 65,536 only 65,535 - addr bytes come from EEPROM"
 abbrev pub takenOf : ℕ → ℕ → ℕ
 takenOf a size = ifLt 65536 (a + size) (65535 - a) size
 
 -- "if the bytes taken end beyond E, or addr > E, 7"
-abbrev pub readMemory : ℕ → ℕ → ℕ → Outcome Effect
-readMemory e a size =
+abbrev pub readMemoryDoes : ℕ → ℕ → ℕ → Outcome Effect
+readMemoryDoes e a size =
     ifLt e (a + takenOf a size) (refused outside) (accepted (tellsOf (MemoryData (record { base = a; «data» = placeAt 0 size }))))
 
 -- "WriteMemory and ReadFloats: 7 where the end is beyond E or S"
-abbrev pub readFloats : ℕ → ℕ → ℕ → Outcome Effect
-readFloats s a len =
+abbrev pub readFloatsDoes : ℕ → ℕ → ℕ → Outcome Effect
+readFloatsDoes s a len =
     ifLt s (a + len) (refused outside) (accepted (tellsOf (FloatData (record { base = a; start = 0; count = len }))))
 
-abbrev pub writeMemory : List ℕ → ℕ → ℕ → Place → Outcome Effect
-writeMemory p e a place =
-    pick (outsideOf place (length p)) (refused outside)
-    (ifLt e (a + place .len) (refused outside) (accepted (effect Ack (bytes a (partOf p place) ∷ []))))
+abbrev pub writeMemoryDoes : List ℕ → ℕ → ℕ → Place → Outcome Effect
+writeMemoryDoes p e a place =
+    pick (isOutside place (length p)) (refused outside)
+    (ifLt e (a + place .len) (refused outside) (accepted (effect Ack (toEeprom a (partOf p place) ∷ []))))
 
 -- "Write stores its four value bytes little-endian at its word, 7 beyond S; a value of another length is Ack and names
 -- nothing, whatever its address."
-abbrev pub writeWord : List ℕ → ℕ → ℕ → Value → Outcome Effect
-writeWord p s a v =
+abbrev pub writeDoes : List ℕ → ℕ → ℕ → Value → Outcome Effect
+writeDoes p s a v =
     pick (valueOutside v (length p)) (refused outside)
     (ifEq (length (valueBytes v p)) 4
-    (ifLt a s (accepted (effect Ack (word a (littleAt 4 (valueBytes v p) 0) ∷ []))) (refused outside))
+    (ifLt a s (accepted (effect Ack (toSettings a (littleAt 4 (valueBytes v p) 0) ∷ []))) (refused outside))
     (accepted (tellsOf Ack)))
 
 -- "SetConfig, SetSource, SetMute, SetVolume name their one EEPROM byte"
 abbrev pub setByte : ℕ → ℕ → ℕ → Responses → Outcome Effect
-setByte e a value response = ifLt a e (accepted (effect response (bytes a (value ∷ []) ∷ []))) (refused outside)
+setByte e a value response = ifLt a e (accepted (effect response (toEeprom a (value ∷ []) ∷ []))) (refused outside)
 
 abbrev pub effectOf : Device → List ℕ → ℕ → ℕ → Commands → Outcome Effect
 effectOf d p e s ReadHardwareId = accepted (tellsOf (identityOf d))
-effectOf d p e s (ReadMemory a size) = readMemory e a size
-effectOf d p e s (WriteMemory a place) = writeMemory p e a place
-effectOf d p e s (ReadFloats a len) = readFloats s a len
-effectOf d p e s (WriteCommand a v) = writeWord p s (a .val) v
-effectOf d p e s (SetConfig config reset) = setByte e preset config ConfigChanged
-effectOf d p e s (SetSource n) = setByte e source n Ack
-effectOf d p e s (SetMute value) = setByte e mute (bit value) Ack
-effectOf d p e s (SetVolume gain) = setByte e masterVolume (byteOf (toBits binary32 (gain .0))) Ack
+effectOf d p e s (ReadMemory a size) = readMemoryDoes e a size
+effectOf d p e s (WriteMemory a place) = writeMemoryDoes p e a place
+effectOf d p e s (ReadFloats a len) = readFloatsDoes s a len
+effectOf d p e s (WriteCommand a v) = writeDoes p s (a .val) v
+effectOf d p e s (SetConfig config reset) = setByte e atPreset config ConfigChanged
+effectOf d p e s (SetSource n) = setByte e atSource n Ack
+effectOf d p e s (SetMute value) = setByte e atMute (bit value) Ack
+effectOf d p e s (SetVolume gain) = setByte e atMasterVolume (gainByte (toBits binary32 (gain .0))) Ack
 effectOf d p e s (FirLoadStart index) = accepted (tellsOf (FirLoadSize (d .«fir_max_taps»)))
 effectOf d p e s (Unk07 payload) = accepted (tellsOf Unk02)
 effectOf d p e s (Read a len) = accepted (tellsOf (readingOf a))

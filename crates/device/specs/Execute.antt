@@ -14,9 +14,9 @@ use Rattle.packet.specs.Receipt.{plainOf}
 use Rattle.fields.specs.Row.{encodedOf}
 use Rattle.commands.specs.Decode.{commandOf}
 use Rattle.commands.specs.declared.Commands.{Commands}
-use Rattle.responses.specs.Encode.{rowOf}
+use Rattle.responses.specs.Encode.{responseRow}
 use Rattle.responses.specs.declared.Responses.{Responses}
-use Rattle.processor.specs.Memory.{Memory, Write, store, wronglySized}
+use Rattle.processor.specs.Memory.{Memory, Store, store, oversized}
 use Rattle.device.specs.Effect.{Effect, effectOf}
 use Rattle.device.specs.Data.{dataOf}
 use Rattle.processor.specs.declared.Device.{Device}
@@ -38,7 +38,7 @@ refusing m out (refused k) next = (refused k, m, out)
 
 -- 14 stands first
 abbrev pub ifSized : {A : Type 0} → Memory → List ℕ → Left A → Left A
-ifSized m out next = pick (wronglySized m) (refused wrongSizes, m, out) next
+ifSized m out next = pick (oversized m) (refused wrongSizes, m, out) next
 
 abbrev pub effectIn : Device → List ℕ → Memory → Commands → Outcome Effect
 effectIn d p m c = effectOf d p (length (m .eeprom)) (length (m .settings)) c
@@ -49,21 +49,21 @@ formOf true packet = frameOf packet
 formOf false packet = packet
 
 abbrev pub answerInto : Bool → List ℕ → Responses → List ℕ → Outcome ℕ × List ℕ
-answerInto framed bytes response out = settle (encodedOf bytes (rowOf response)) (formOf framed) out
+answerInto framed bytes response out = settle (encodedOf bytes (responseRow response)) (formOf framed) out
 
 -- "all settled before anything is stored"
-abbrev pub stored : List Write → Memory → Outcome ℕ → Outcome ℕ × Memory
-stored writes m (accepted n) = (accepted n, store writes m)
-stored writes m (refused k) = (refused k, m)
+abbrev pub storeIf : List Store → Memory → Outcome ℕ → Outcome ℕ × Memory
+storeIf writes m (accepted n) = (accepted n, store writes m)
+storeIf writes m (refused k) = (refused k, m)
 
-abbrev pub answeredInto : Bool → Memory → List ℕ → Effect → Left ℕ
-answeredInto framed m out e =
+abbrev pub effectInto : Bool → Memory → List ℕ → Effect → Left ℕ
+effectInto framed m out e =
     let answer = answerInto framed (dataOf m (e .response)) (e .response) out in
-    let after = stored (e .writes) m (answer .0) in
+    let after = storeIf (e .writes) m (answer .0) in
     (after .0, after .1, answer .1)
 
 abbrev pub commandInto : Device → Bool → Commands → List ℕ → Memory → List ℕ → Left ℕ
-commandInto d framed c p m out = refusing m out (effectIn d p m c) (answeredInto framed m out)
+commandInto d framed c p m out = refusing m out (effectIn d p m c) (effectInto framed m out)
 
 -- "A command record executed directly: 14, 7, then 8 for an address in the answer and 6, both only where the answer's
 -- bytes go to a lent output"

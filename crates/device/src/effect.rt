@@ -8,9 +8,9 @@ ghost use lib.ListN.{length};
 ghost use Rattle.octets.specs.Number.{littleAt};
 ghost use Rattle.fields.specs.Value.{valueBytes, valueOutside};
 ghost use Rattle.responses.specs.declared.Responses.the-variants.{FirLoadSize};
-ghost use Rattle.processor.specs.declared.write.Change.the-variants.{Nothing};
+ghost use Rattle.processor.specs.declared.change.Change.the-variants.{Nothing};
 ghost use Rattle.device.specs.Decided.{decided, does, dataLength, answerLength};
-ghost use Rattle.device.specs.Effect.{effectOf, takenOf, identityOf, readingOf, readMemory, writeMemory, readFloats, writeWord, setByte};
+ghost use Rattle.device.specs.Effect.{effectOf, takenOf, identityOf, readingOf, readMemoryDoes, writeMemoryDoes, readFloatsDoes, writeDoes, setByte};
 use commands::Commands;
 use facts::HardwareId;
 use facts::eeprom::MASTER_VOLUME;
@@ -25,7 +25,7 @@ use octets::number;
 use octets::refusal;
 use processor::Device;
 use processor::LARGEST;
-use processor::write::Change;
+use processor::change::Change;
 use responses::Responses;
 use responses::Responses::Ack;
 use responses::Responses::ConfigChanged;
@@ -46,7 +46,7 @@ pub enum Decided {
 }
 
 // Read's answer, the code of -10 dB
-const READ: u32 = 0x0028_7A26;
+const READ_ANSWER: u32 = 0x0028_7A26;
 
 // A payload of the answer, from eeprom or settings, stands at the start of its own bytes.
 pub fn decide(device: Device, command: Commands, payload: &[u8], e: usize, s: usize) -> Decided
@@ -109,7 +109,7 @@ fn reading(addr: Addr) -> Responses
 {
     Responses::Read {
         addr,
-        data: Values::One(Value::FixedPoint(FixedPoint::from_u32(READ))),
+        data: Values::One(Value::FixedPoint(FixedPoint::from_u32(READ_ANSWER))),
     }
 }
 
@@ -125,7 +125,7 @@ pub fn taken(addr: u16, size: usize) -> usize
 }
 
 fn read_memory(base: u16, size: u8, e: usize) -> Decided
-    ensures { λ r. ⌜ ((p : List ℕ) → decided p r ≡ readMemory e base size) × (answerLength r ≤ 1020) ⌝ }
+    ensures { λ r. ⌜ ((p : List ℕ) → decided p r ≡ readMemoryDoes e base size) × (answerLength r ≤ 1020) ⌝ }
 {
     let len = size as usize;
     if e < base as usize + taken(base, len) {
@@ -136,7 +136,7 @@ fn read_memory(base: u16, size: u8, e: usize) -> Decided
 }
 
 fn read_floats(base: u16, len: u8, s: usize) -> Decided
-    ensures { λ r. ⌜ ((p : List ℕ) → decided p r ≡ readFloats s base len) × (answerLength r ≤ 1020) ⌝ }
+    ensures { λ r. ⌜ ((p : List ℕ) → decided p r ≡ readFloatsDoes s base len) × (answerLength r ≤ 1020) ⌝ }
 {
     let count = len as usize;
     if s < base as usize + count {
@@ -147,9 +147,9 @@ fn read_floats(base: u16, len: u8, s: usize) -> Decided
 }
 
 fn write_memory(addr: u16, data: Place, payload: &[u8], e: usize) -> Decided
-    ensures { λ r. ⌜ (decided (now (payload .entry)) r ≡ writeMemory (now (payload .entry)) e addr «data») × (answerLength r ≤ 1020) ⌝ }
+    ensures { λ r. ⌜ (decided (now (payload .entry)) r ≡ writeMemoryDoes (now (payload .entry)) e addr «data») × (answerLength r ≤ 1020) ⌝ }
 {
-    if octets::outside(data, payload.len()) {
+    if octets::is_outside(data, payload.len()) {
         return Decided::Refused(refusal::OUTSIDE);
     }
     if e < addr as usize {
@@ -160,7 +160,7 @@ fn write_memory(addr: u16, data: Place, payload: &[u8], e: usize) -> Decided
     }
     Decided::Does(Effect {
         response: Ack,
-        change: Change::Bytes { addr, data },
+        change: Change::EepromBytes { addr, data },
     })
 }
 
@@ -170,7 +170,7 @@ fn set_byte(addr: u16, value: u8, e: usize, response: Responses) -> Decided
     if (addr as usize) < e {
         return Decided::Does(Effect {
             response,
-            change: Change::Byte { addr, value },
+            change: Change::EepromByte { addr, value },
         });
     }
     Decided::Refused(refusal::OUTSIDE)
@@ -178,7 +178,7 @@ fn set_byte(addr: u16, value: u8, e: usize, response: Responses) -> Decided
 
 // A value of another length than four names nothing.
 fn write_word(addr: u32, value: Value, payload: &[u8], s: usize) -> Decided
-    ensures { λ r. ⌜ (decided (now (payload .entry)) r ≡ writeWord (now (payload .entry)) s addr value) × (answerLength r ≤ 1020) ⌝ }
+    ensures { λ r. ⌜ (decided (now (payload .entry)) r ≡ writeDoes (now (payload .entry)) s addr value) × (answerLength r ≤ 1020) ⌝ }
 {
     if value.is_outside(payload.len()) {
         return Decided::Refused(refusal::OUTSIDE);
@@ -190,7 +190,7 @@ fn write_word(addr: u32, value: Value, payload: &[u8], s: usize) -> Decided
         let word = word_of(value, payload);
         return Decided::Does(Effect {
             response: Ack,
-            change: Change::Word { addr, value: word },
+            change: Change::SettingsWord { addr, value: word },
         });
     }
     tells(Ack)

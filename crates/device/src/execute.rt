@@ -8,25 +8,25 @@ ghost use Rattle.processor.specs.Memory.{memory};
 ghost use Rattle.processor.specs.Change.{writesIn};
 ghost use Rattle.device.specs.Decided.{dataLength};
 ghost use Rattle.device.specs.Data.{dataOf, memoryPart, wordsPart};
-ghost use Rattle.device.specs.Execute.{executed, executedRecord, executedInto, commandInto, answerInto, stored, packetInto, receivedInto};
+ghost use Rattle.device.specs.Execute.{executed, executedRecord, executedInto, commandInto, answerInto, storeIf, packetInto, receivedInto};
 use crate::effect::Decided;
 use crate::effect::decide;
 use crate::effect::taken;
 use commands::Commands;
-use commands::decode::Parsed;
+use commands::decode::ReadCommand;
 use octets::Place;
 use octets::Written;
 use octets::number;
 use octets::refusal;
 use packet::Received;
 use processor::Device;
+use processor::change::Change;
+use processor::change::store;
 use processor::too_large;
-use processor::write::Change;
-use processor::write::store;
 use responses::Responses;
 
 // The most bytes that an answer's payload has: 255 words.
-const LONGEST: usize = 1020;
+const LONGEST_PAYLOAD: usize = 1020;
 
 // The answer as a record, or the number of the refusal.
 pub enum Executed {
@@ -67,10 +67,10 @@ fn receive_packet(
     let decoded = Commands::from_bytes(packet);
     let answer = decoded.answer;
     match answer {
-        Parsed::Command(command) => {
+        ReadCommand::Command(command) => {
             answer_into(device, command, packet, true, eeprom, settings, out)
         }
-        Parsed::Refused(k) => Written::Refused(k),
+        ReadCommand::Refused(k) => Written::Refused(k),
     }
 }
 
@@ -99,7 +99,7 @@ pub fn execute(
     payload: &[u8],
     eeprom: &mut [u8],
     settings: &mut [u32],
-    data: &mut [u8; LONGEST],
+    data: &mut [u8; LONGEST_PAYLOAD],
 ) -> Executed
     ensures { λ r. ⌜ (executed r, memory (now (eeprom .exit)) (now (settings .exit)), now («data» .exit)) ≡ executedRecord device command (now (payload .entry)) (memory (now (eeprom .entry)) (now (settings .entry))) (now («data» .entry)) ⌝ }
 {
@@ -134,7 +134,7 @@ fn answer_into(
         Decided::Does(effect) => {
             let response = effect.response;
             let change = effect.change;
-            let mut data = [0u8; LONGEST];
+            let mut data = [0u8; LONGEST_PAYLOAD];
             let n = put_data(response, &eeprom[..], &settings[..], &mut data);
             let answer = write_answer(response, &data[0..n], framed, out);
             store_if(answer, change, payload, eeprom, settings)
@@ -170,7 +170,7 @@ fn put_memory(base: u16, size: usize, eeprom: &[u8], data: &mut [u8]) -> usize
     requires { ⌜ (size ≤ 1020) × (1020 ≤ length (now «data»)) ⌝ }
     ensures { λ r. ⌜ (r ≡ length (memoryPart (now (eeprom .entry)) base size)) × (now («data» .exit) ≡ over (memoryPart (now (eeprom .entry)) base size) (now («data» .entry))) ⌝ }
 {
-    let fill = [0xffu8; LONGEST];
+    let fill = [0xffu8; LONGEST_PAYLOAD];
     let len = taken(base, size);
     let start = base as usize;
     let part = octets::part(eeprom, Place { start, len });
@@ -215,7 +215,7 @@ fn store_if(
     eeprom: &mut [u8],
     settings: &mut [u32],
 ) -> Written
-    ensures { λ r. ⌜ (written r, memory (now (eeprom .exit)) (now (settings .exit))) ≡ stored (writesIn (now (payload .entry)) change) (memory (now (eeprom .entry)) (now (settings .entry))) (written answer) ⌝ }
+    ensures { λ r. ⌜ (written r, memory (now (eeprom .exit)) (now (settings .exit))) ≡ storeIf (writesIn (now (payload .entry)) change) (memory (now (eeprom .entry)) (now (settings .entry))) (written answer) ⌝ }
 {
     match answer {
         Written::Bytes(n) => {

@@ -11,7 +11,7 @@ use Rattle.facts.proofs.probe.probe_kind.Reads as probe-kind
 use Rattle.facts.proofs.source.Source.mapping.Reads as mapping
 use Rattle.facts.proofs.source.Source.from_id.Reads as from-id
 use Rattle.facts.proofs.source.Source.to_id.Reads as to-id
-use Rattle.facts.proofs.source.number.Reads as number
+use Rattle.facts.proofs.source.source_number.Reads as source-number
 
 pub device-kind-fixed : Fixes DeviceKind device-kind.Post (λ κs answer left. answer)
 device-kind-fixed κs args a b x y p q = agree p q
@@ -31,5 +31,5 @@ from-id-fixed κs args a b x y p q = agree p q
 pub to-id-fixed : Fixes ℕ to-id.Post (λ κs answer left. answer)
 to-id-fixed κs args a b x y p q = agree p q
 
-pub number-fixed : Fixes ℕ number.Post (λ κs answer left. answer)
-number-fixed κs args a b x y p q = agree p q
+pub source-number-fixed : Fixes ℕ source-number.Post (λ κs answer left. answer)
+source-number-fixed κs args a b x y p q = agree p q

@@ -10,7 +10,7 @@ use lib.Seq.{drop-cons}
 use borrow.Author.Needs.{needs}
 use Rattle.octets.specs.Choice.{ifEq}
 use Rattle.octets.proofs.Choosing.{same, other, either-eq}
-use Rattle.facts.specs.Source.{entry, mappingOf, held, sourceNumber, firstOf, toId}
+use Rattle.facts.specs.Source.{entry, mappingOf, sevenOf, sourceNumber, firstOf, toId}
 use Rattle.facts.specs.declared.source.Entry.{Entry}
 use Rattle.facts.specs.declared.source.Mapping.{Mapping}
 use Rattle.facts.specs.declared.source.Source.{Source}
@@ -60,7 +60,7 @@ at-most hw dsp = search (chosen, needs) depth 20
 abbrev pub at : Mapping → ℕ → Entry
 at m i = getD (m .entries) i (entry NotInstalled 0)
 
-module _ {m : Mapping} (l : List Entry) (e : m ≡ held l) where
+module _ {m : Mapping} (l : List Entry) (e : m ≡ sevenOf l) where
   counted : m .count ≡ length l
   counted = ap (λ (x : Mapping). x .count) e
 
@@ -69,12 +69,12 @@ module _ {m : Mapping} (l : List Entry) (e : m ≡ held l) where
       let k : i < length l = rw counted at h in
       rw (e, add-one, List·getD-append l _ _ i k, drop-cons l i (entry NotInstalled 0) k)
 
-pub inside : {m : Mapping} {i : ℕ} (hw dsp : ℕ) → m ≡ held (mappingOf hw dsp) → i < m .count → i < 7
+pub inside : {m : Mapping} {i : ℕ} (hw dsp : ℕ) → m ≡ sevenOf (mappingOf hw dsp) → i < m .count → i < 7
 inside hw dsp e h = omega (arith, counted (mappingOf hw dsp) e, at-most hw dsp)
 
 -- the first i entries of an answer are under other keys
 pub record Passed {A : Type 0} (key : Entry → ℕ) (k : ℕ) (value : Entry → A) (none : A) (m : Mapping) (i : ℕ) : Type 0 where
-  pub rest : (l : List Entry) → m ≡ held l → firstOf key k value none (drop i l) ≡ firstOf key k value none l
+  pub rest : (l : List Entry) → m ≡ sevenOf l → firstOf key k value none (drop i l) ≡ firstOf key k value none l
 
 module _ {A : Type 0} {key : Entry → ℕ} {k : ℕ} {value : Entry → A} {none : A} {m : Mapping} where
   pub start : Passed key k value none m 0
@@ -87,10 +87,10 @@ module _ {A : Type 0} {key : Entry → ℕ} {k : ℕ} {value : Entry → A} {non
       rest = λ l e. other _ _ _ _ _ q refl ∙ sym (ap (firstOf key k value none) (front l e h)) ∙ p .rest l e;
     }
 
-    pub hit : (l : List Entry) → m ≡ held l → i < m .count → key (at m i) ≡ k → value (at m i) ≡ firstOf key k value none l
+    pub hit : (l : List Entry) → m ≡ sevenOf l → i < m .count → key (at m i) ≡ k → value (at m i) ≡ firstOf key k value none l
     unfolding firstOf
     hit l e h q = same _ _ _ _ _ q refl ∙ sym (ap (firstOf key k value none) (front l e h)) ∙ p .rest l e
 
-    pub out : (l : List Entry) → m ≡ held l → m .count ≤ i → none ≡ firstOf key k value none l
+    pub out : (l : List Entry) → m ≡ sevenOf l → m .count ≤ i → none ≡ firstOf key k value none l
     unfolding firstOf
     out l e h = sym (ap (firstOf key k value none) (drop-of-length-le l (rw (counted l e) at h))) ∙ p .rest l e

@@ -1,3 +1,3 @@
 pub mod Eeprom
-pub mod Kind
+pub mod DeviceInfo
 pub mod Source

@@ -30,8 +30,8 @@ mappingOf hw dsp =
     (entry NotInstalled 0 ∷ [])))))))
 
 -- a list as the answer holds it: its entries first, and the same filler in each place that is left of seven
-abbrev pub held : List Entry → Mapping
-held entries = record { count = length entries; entries = entries ++ replicate (7 - length entries) (entry NotInstalled 0) }
+abbrev pub sevenOf : List Entry → Mapping
+sevenOf entries = record { count = length entries; entries = entries ++ replicate (7 - length entries) (entry NotInstalled 0) }
 
 -- sources are told apart by a number for each
 abbrev pub sourceNumber : Source → ℕ

@@ -1,7 +1,7 @@
 // Facts about devices: their kinds, whether they have Dirac Live, their input sources, and where
 // their EEPROM holds what. (lib.rs, device/probe.rs, source.rs, eeprom.rs)
 ghost use mathlib.Core.Path.{_≡_};
-ghost use Rattle.facts.specs.Kind.{kindOf, diracOf};
+ghost use Rattle.facts.specs.DeviceInfo.{deviceKind, supportsDirac};
 use crate::probe::DeviceKind;
 use crate::probe::probe_kind;
 
@@ -28,14 +28,14 @@ pub struct HardwareId {
 impl DeviceInfo {
     // The device's kind.
     pub fn device_kind(self) -> DeviceKind
-        ensures { λ r. ⌜ r ≡ kindOf (self .«hw_id») (self .«dsp_version») ⌝ }
+        ensures { λ r. ⌜ r ≡ deviceKind (self .«hw_id») (self .«dsp_version») ⌝ }
     {
         probe_kind(self)
     }
 
     // Whether it has Dirac Live.
     pub fn supports_dirac(self) -> bool
-        ensures { λ r. ⌜ r ≡ diracOf (self .«dsp_version») ⌝ }
+        ensures { λ r. ⌜ r ≡ supportsDirac (self .«dsp_version») ⌝ }
     {
         let version = self.dsp_version;
         // an arm for each number: `94 | 95` in one arm would be a test of a range

@@ -1,6 +1,6 @@
 // Which device it is, by hardware id and dsp version. (device/probe.rs, all device features on)
 ghost use mathlib.Core.Path.{_≡_};
-ghost use Rattle.facts.specs.Kind.{kindOf};
+ghost use Rattle.facts.specs.DeviceInfo.{deviceKind};
 use crate::DeviceInfo;
 use DeviceKind::*;
 
@@ -22,7 +22,7 @@ pub enum DeviceKind {
 
 // The kind of a device, Generic where none is known.
 pub fn probe_kind(info: DeviceInfo) -> DeviceKind
-    ensures { λ r. ⌜ r ≡ kindOf (info .«hw_id») (info .«dsp_version») ⌝ }
+    ensures { λ r. ⌜ r ≡ deviceKind (info .«hw_id») (info .«dsp_version») ⌝ }
 {
     let hw = info.hw_id;
     let dsp = info.dsp_version;

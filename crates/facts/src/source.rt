@@ -1,7 +1,7 @@
 // Input sources and their numbers, by device. (source.rs)
 ghost use mathlib.Core.Path.{_≡_};
 ghost use mathlib.Core.List.{[], _∷_};
-ghost use Rattle.facts.specs.Source.{entry, held, mappingOf, sourceNumber, fromId, toId};
+ghost use Rattle.facts.specs.Source.{entry, sevenOf, mappingOf, sourceNumber, fromId, toId};
 use crate::DeviceInfo;
 use Source::*;
 
@@ -45,7 +45,7 @@ const NONE: Mapping = Mapping {
 impl Source {
     // The available input sources with their numbers. Every device numbers its own from 0.
     pub fn mapping(info: DeviceInfo) -> Mapping
-        ensures { λ r. ⌜ r ≡ held (mappingOf (info .«hw_id») (info .«dsp_version»)) ⌝ }
+        ensures { λ r. ⌜ r ≡ sevenOf (mappingOf (info .«hw_id») (info .«dsp_version»)) ⌝ }
     {
         let hw = info.hw_id;
         let dsp = info.dsp_version;
@@ -91,12 +91,12 @@ impl Source {
         ensures { λ r. ⌜ r ≡ toId self (mappingOf (info .«hw_id») (info .«dsp_version»)) ⌝ }
     {
         let m = Source::mapping(info);
-        let wanted = number(self);
+        let wanted = source_number(self);
         let mut i = 0;
         while i < m.count {
             let e = m.entries[i];
             let source = e.source;
-            if number(source) == wanted {
+            if source_number(source) == wanted {
                 return e.id;
             }
             i += 1;
@@ -106,7 +106,7 @@ impl Source {
 }
 
 // A number of its own for each source, to tell them apart.
-pub fn number(source: Source) -> u8
+pub fn source_number(source: Source) -> u8
     ensures { λ r. ⌜ r ≡ sourceNumber source ⌝ }
 {
     match source {
@@ -127,7 +127,7 @@ pub fn number(source: Source) -> u8
 
 // Lists of two, three, five and seven sources, numbered from 0.
 fn two(a: Source, b: Source) -> Mapping
-    ensures { λ r. ⌜ r ≡ held (entry a 0 ∷ entry b 1 ∷ []) ⌝ }
+    ensures { λ r. ⌜ r ≡ sevenOf (entry a 0 ∷ entry b 1 ∷ []) ⌝ }
 {
     let mut m = NONE;
     m.entries[0] = Entry { source: a, id: 0 };
@@ -137,7 +137,7 @@ fn two(a: Source, b: Source) -> Mapping
 }
 
 fn three(a: Source, b: Source, c: Source) -> Mapping
-    ensures { λ r. ⌜ r ≡ held (entry a 0 ∷ entry b 1 ∷ entry c 2 ∷ []) ⌝ }
+    ensures { λ r. ⌜ r ≡ sevenOf (entry a 0 ∷ entry b 1 ∷ entry c 2 ∷ []) ⌝ }
 {
     let mut m = two(a, b);
     m.entries[2] = Entry { source: c, id: 2 };
@@ -146,7 +146,7 @@ fn three(a: Source, b: Source, c: Source) -> Mapping
 }
 
 fn five(a: Source, b: Source, c: Source, d: Source, e: Source) -> Mapping
-    ensures { λ r. ⌜ r ≡ held (entry a 0 ∷ entry b 1 ∷ entry c 2 ∷ entry d 3 ∷ entry e 4 ∷ []) ⌝ }
+    ensures { λ r. ⌜ r ≡ sevenOf (entry a 0 ∷ entry b 1 ∷ entry c 2 ∷ entry d 3 ∷ entry e 4 ∷ []) ⌝ }
 {
     let mut m = three(a, b, c);
     m.entries[3] = Entry { source: d, id: 3 };
@@ -156,7 +156,7 @@ fn five(a: Source, b: Source, c: Source, d: Source, e: Source) -> Mapping
 }
 
 fn seven(a: Source, b: Source, c: Source, d: Source, e: Source, f: Source, g: Source) -> Mapping
-    ensures { λ r. ⌜ r ≡ held (entry a 0 ∷ entry b 1 ∷ entry c 2 ∷ entry d 3 ∷ entry e 4 ∷ entry f 5 ∷ entry g 6 ∷ []) ⌝ }
+    ensures { λ r. ⌜ r ≡ sevenOf (entry a 0 ∷ entry b 1 ∷ entry c 2 ∷ entry d 3 ∷ entry e 4 ∷ entry f 5 ∷ entry g 6 ∷ []) ⌝ }
 {
     let mut m = five(a, b, c, d, e);
     m.entries[5] = Entry { source: f, id: 5 };

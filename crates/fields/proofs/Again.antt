@@ -11,7 +11,7 @@ use lib.Dec.{leb, lit<}
 use lib.ListN.{length, take, drop, take-append-drop, drop-of-length-le}
 use lib.Seq.{drop-cons, drop-drop}
 use Rattle.octets.specs.Outcome.{accepted}
-use Rattle.octets.specs.Number.{at, Bytes, bigAt, littleAt, bigBytes, littleBytes}
+use Rattle.octets.specs.Number.{at, Octets, bigAt, littleAt, bigBytes, littleBytes}
 use Rattle.octets.specs.Place.{placeAt, floatsAt, partOf}
 use Rattle.octets.specs.declared.Place.{Place}
 use Rattle.octets.proofs.Choosing.{above, lt-or-le, either-eq}
@@ -19,7 +19,7 @@ use Rattle.octets.proofs.InBytes.{big-lt, big-again, little-again, little-parts
 use Rattle.octets.proofs.Parts.{is-inside}
 use Rattle.fields.specs.Addr.{bit, wrongLength, addrAt, addrBytes}
 use Rattle.fields.specs.Value.{valueAt, valueBytes, valueOutside}
-use Rattle.fields.specs.Row.{bytesOf, packetOf, anyOf, Sound, AllSound, encodedOf}
+use Rattle.fields.specs.Row.{fieldBytes, packetOf, anyOf, Writable, AllWritable, encodedOf}
 use Rattle.fields.specs.Back.{Clear}
 use Rattle.fields.specs.declared.row.Field.{Field}
 use Rattle.fields.specs.declared.row.Field.the-variants.{Byte, Word, Address, Coded, Payload, Floats}
@@ -48,7 +48,7 @@ again q n some short clear = go (lt-or-le n (8 * q))
         let e : n / q ≡ 8 = omega arith in
         rw (le-leb (8 * q) n h, low) (omega (arith, rw e at (div-add-mod' n q)))
 
-module _ (p : List ℕ) (bytes : Bytes p) where
+module _ (p : List ℕ) (bytes : Octets p) where
   addr-again : (i k : ℕ) → wrongLength k ≡ false → Clear k p i → addrBytes (addrAt k p i) ≡ bigBytes k (bigAt k p i)
   unfolding addrAt addrBytes
   addr-again i = by-length (λ k. Clear k p i → addrBytes (addrAt k p i) ≡ bigBytes k (bigAt k p i)) (λ c. rw (again (2 ^ 12) (bigAt 2 p i) (lit< tt) (big-lt p bytes 2 i) c)) (λ c. rw (again (2 ^ 20) (bigAt 3 p i) (lit< tt) (big-lt p bytes 3 i) c))
@@ -77,7 +77,7 @@ module _ (p : List ℕ) (bytes : Bytes p) where
 -- ---- a row of fields from the place i of a packet to its end
 pub record From (p : List ℕ) (i : ℕ) (row : List Field) : Type 0 where
   pub is : packetOf p row ≡ drop i p
-  pub sound : AllSound p row
+  pub sound : AllWritable p row
 
 module _ (p : List ℕ) where
   -- it is written as the whole packet
@@ -90,7 +90,7 @@ module _ (p : List ℕ) where
   ended i h = record { is = sym (drop-of-length-le p h); sound = record { addressed = refl; placed = refl } }
 
   -- one field in front, whose bytes are the next m
-  module _ (i m : ℕ) (f : Field) (fs : List Field) (is : bytesOf p f ≡ take m (drop i p)) (sound : Sound p f) where
+  module _ (i m : ℕ) (f : Field) (fs : List Field) (is : fieldBytes p f ≡ take m (drop i p)) (sound : Writable p f) where
     more : From p (i + m) fs → From p i (f ∷ fs)
     unfolding packetOf anyOf
     more t = record { is = rw (is, t .is, ← drop-drop m i p) (take-append-drop m (drop i p)); sound = record { addressed = rw (sound .addressed) (t .sound .addressed); placed = rw (sound .placed) (t .sound .placed) } }
@@ -111,7 +111,7 @@ module _ (p : List ℕ) where
     unfolding partOf
     floats count h = more i (count * 4) (Floats i count) fs refl (record { addressed = refl; placed = sym (is-inside (floatsAt i count) (length p) h) })
 
-    module _ (bytes : Bytes p) where
+    module _ (bytes : Octets p) where
       pub word : (n : ℕ) → n ≡ bigAt 2 p i → i + 2 ≤ length p → From p (i + 2) fs → From p i (Word n ∷ fs)
       word n e h = more i 2 (Word n) fs (rw (e, big-again p bytes 2 i h)) (record { addressed = refl; placed = refl })
 

@@ -14,7 +14,7 @@ use Rattle.octets.proofs.Parts.{part-between}
 use Rattle.fields.specs.declared.row.Cell.{Cell}
 use Rattle.fields.specs.declared.row.Field.{Field}
 use Rattle.fields.specs.declared.row.Field.the-variants.{Nothing}
-use Rattle.fields.specs.Row.{bytesOf, packetOf, misaddressed, misplaced, anyOf, Sound, AllSound, encodedOf, fieldsOf, nothings, padded}
+use Rattle.fields.specs.Row.{fieldBytes, packetOf, misaddressed, misplaced, anyOf, Writable, AllWritable, encodedOf, fieldsOf, nothings, padded}
 
 abbrev pub noCell : Cell
 noCell = record { field = Nothing }
@@ -56,7 +56,7 @@ module _ (test : Field → Bool) where
   none-at (f ∷ fs) zero e h = neither (test f) (anyOf test fs) e .0
   none-at (f ∷ fs) (suc i) e h = none-at fs i (neither (test f) (anyOf test fs) e .1) (le-of-suc-le-suc h)
 
-pub sound-at : (p : List ℕ) (cells : List Cell) (i : ℕ) → AllSound p (fieldsOf cells) → i < length cells → Sound p (getD cells i noCell .field)
+pub sound-at : (p : List ℕ) (cells : List Cell) (i : ℕ) → AllWritable p (fieldsOf cells) → i < length cells → Writable p (getD cells i noCell .field)
 sound-at p cells i s h =
     let k : i < length (fieldsOf cells) = rw length-fields h in
     record {
@@ -71,7 +71,7 @@ module _ (test : Field → Bool) (f : Field) (after : List Field) where
   none-of [] e = neither (test f) (anyOf test after) e .0
   none-of (g ∷ gs) e = none-of gs (neither (test g) (anyOf test (gs ++ (f ∷ after))) e .1)
 
-pub sound-of : (p : List ℕ) (before : List Field) (f : Field) (after : List Field) → AllSound p (before ++ (f ∷ after)) → Sound p f
+pub sound-of : (p : List ℕ) (before : List Field) (f : Field) (after : List Field) → AllWritable p (before ++ (f ∷ after)) → Writable p f
 sound-of p before f after s =
     record { addressed = none-of misaddressed f after before (s .addressed); placed = none-of (misplaced (length p)) f after before (s .placed) }
 
@@ -83,19 +83,19 @@ module _ (p : List ℕ) where
   packet-append (f ∷ fs) b = rw (packet-append fs b, append-assoc)
 
   -- where a field's bytes stand
-  pub stands : (before after : List Field) (f : Field) (n m : ℕ) → n ≡ length (packetOf p before) → m ≡ length (bytesOf p f) → partOf (packetOf p (before ++ (f ∷ after))) (placeAt n m) ≡ bytesOf p f
+  pub stands : (before after : List Field) (f : Field) (n m : ℕ) → n ≡ length (packetOf p before) → m ≡ length (fieldBytes p f) → partOf (packetOf p (before ++ (f ∷ after))) (placeAt n m) ≡ fieldBytes p f
   unfolding packetOf
-  stands before after f n m h g = rw packet-append (part-between (packetOf p before) (bytesOf p f) (packetOf p after) n m h g)
+  stands before after f n m h g = rw packet-append (part-between (packetOf p before) (fieldBytes p f) (packetOf p after) n m h g)
 
   -- one field more
-  pub packet-more : (cells : List Cell) (i : ℕ) → i < length cells → packetOf p (take (i + 1) (fieldsOf cells)) ≡ packetOf p (take i (fieldsOf cells)) ++ bytesOf p (getD cells i noCell .field)
+  pub packet-more : (cells : List Cell) (i : ℕ) → i < length cells → packetOf p (take (i + 1) (fieldsOf cells)) ≡ packetOf p (take i (fieldsOf cells)) ++ fieldBytes p (getD cells i noCell .field)
   unfolding packetOf
   packet-more cells i h = rw (add-one, take-suc (fieldsOf cells) i Nothing (rw length-fields h), packet-append, append-nil, field-at cells i)
 
   pub packet-all : (cells : List Cell) (i : ℕ) → length cells ≤ i → packetOf p (take i (fieldsOf cells)) ≡ packetOf p (fieldsOf cells)
   packet-all cells i h = rw (take-all i (fieldsOf cells) (rw length-fields h))
 
-  pub packet-length : (cells : List Cell) (i : ℕ) → i < length cells → length (packetOf p (take (i + 1) (fieldsOf cells))) ≡ length (packetOf p (take i (fieldsOf cells))) + length (bytesOf p (getD cells i noCell .field))
+  pub packet-length : (cells : List Cell) (i : ℕ) → i < length cells → length (packetOf p (take (i + 1) (fieldsOf cells))) ≡ length (packetOf p (take i (fieldsOf cells))) + length (fieldBytes p (getD cells i noCell .field))
   packet-length cells i h = rw (packet-more cells i h, length-append)
 
   pub packet-prefix : (row : List Field) (i : ℕ) → length (packetOf p (take i row)) ≤ length (packetOf p row)
@@ -104,7 +104,7 @@ module _ (p : List ℕ) where
       omega arith
 
   -- the next field ends within the packet
-  pub next-ends : (cells : List Cell) (i : ℕ) → i < length cells → length (packetOf p (take i (fieldsOf cells))) + length (bytesOf p (getD cells i noCell .field)) ≤ length (packetOf p (fieldsOf cells))
+  pub next-ends : (cells : List Cell) (i : ℕ) → i < length cells → length (packetOf p (take i (fieldsOf cells))) + length (fieldBytes p (getD cells i noCell .field)) ≤ length (packetOf p (fieldsOf cells))
   next-ends cells i h = rw (← packet-length cells i h) (packet-prefix (fieldsOf cells) (i + 1))
 
   -- what is Nothing takes no byte

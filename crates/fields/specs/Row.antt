@@ -9,7 +9,7 @@ use Rattle.octets.specs.Outcome.{Outcome, accepted, refused, onAccepted}
 use Rattle.octets.specs.Choice.{pick, ifLt}
 use Rattle.octets.specs.Over.{settle}
 use Rattle.octets.specs.Number.{bigBytes}
-use Rattle.octets.specs.Place.{floatsAt, partOf, outsideOf}
+use Rattle.octets.specs.Place.{floatsAt, partOf, isOutside}
 use Rattle.packet.specs.Frame.{frameOf}
 use Rattle.fields.specs.Addr.{wrongLength, addrBytes}
 use Rattle.fields.specs.Value.{valueBytes, valueOutside}
@@ -18,18 +18,18 @@ use Rattle.fields.specs.declared.row.Field.{Field}
 use Rattle.fields.specs.declared.row.Field.the-variants.{Nothing, Byte, Word, Address, Coded, Payload, Floats}
 
 -- the bytes of a field; p is what the caller lends. "numbers are big-endian unless said"
-abbrev pub bytesOf : List ℕ → Field → List ℕ
-bytesOf p Nothing = []
-bytesOf p (Byte n) = n ∷ []
-bytesOf p (Word n) = bigBytes 2 n
-bytesOf p (Address a) = addrBytes a
-bytesOf p (Coded v) = valueBytes v p
-bytesOf p (Payload place) = partOf p place
-bytesOf p (Floats start count) = partOf p (floatsAt start count)
+abbrev pub fieldBytes : List ℕ → Field → List ℕ
+fieldBytes p Nothing = []
+fieldBytes p (Byte n) = n ∷ []
+fieldBytes p (Word n) = bigBytes 2 n
+fieldBytes p (Address a) = addrBytes a
+fieldBytes p (Coded v) = valueBytes v p
+fieldBytes p (Payload place) = partOf p place
+fieldBytes p (Floats start count) = partOf p (floatsAt start count)
 
 unfoldable pub packetOf : List ℕ → List Field → List ℕ
 packetOf p [] = []
-packetOf p (f ∷ fs) = bytesOf p f ++ packetOf p fs
+packetOf p (f ∷ fs) = fieldBytes p f ++ packetOf p fs
 
 -- "address to be written, in a record of length other than 2 or 3"
 abbrev pub misaddressed : Field → Bool
@@ -48,19 +48,19 @@ misplaced have (Byte n) = false
 misplaced have (Word n) = false
 misplaced have (Address a) = false
 misplaced have (Coded v) = valueOutside v have
-misplaced have (Payload place) = outsideOf place have
-misplaced have (Floats start count) = outsideOf (floatsAt start count) have
+misplaced have (Payload place) = isOutside place have
+misplaced have (Floats start count) = isOutside (floatsAt start count) have
 
 unfoldable pub anyOf : (Field → Bool) → List Field → Bool
 anyOf test [] = false
 anyOf test (f ∷ fs) = pick (test f) true (anyOf test fs)
 
 -- a field that nothing is wrong with, and a row of such fields
-pub record Sound (p : List ℕ) (f : Field) : Type 0 where
+pub record Writable (p : List ℕ) (f : Field) : Type 0 where
   pub addressed : misaddressed f ≡ false
   pub placed : misplaced (length p) f ≡ false
 
-pub record AllSound (p : List ℕ) (row : List Field) : Type 0 where
+pub record AllWritable (p : List ℕ) (row : List Field) : Type 0 where
   pub addressed : anyOf misaddressed row ≡ false
   pub placed : anyOf (misplaced (length p)) row ≡ false
 
@@ -72,14 +72,14 @@ encodedOf p row =
     (ifLt 254 (length (packetOf p row)) (refused tooLong) (accepted (packetOf p row))))
 
 -- how many bytes that takes
-abbrev pub counted : Outcome (List ℕ) → Outcome ℕ
-counted = onAccepted length
+abbrev pub encodedLength : Outcome (List ℕ) → Outcome ℕ
+encodedLength = onAccepted length
 
-abbrev pub writeInto : List ℕ → List Field → List ℕ → Outcome ℕ × List ℕ
-writeInto p row out = settle (encodedOf p row) (λ bytes. bytes) out
+abbrev pub rowInto : List ℕ → List Field → List ℕ → Outcome ℕ × List ℕ
+rowInto p row out = settle (encodedOf p row) (λ bytes. bytes) out
 
-abbrev pub frameInto : List ℕ → List Field → List ℕ → Outcome ℕ × List ℕ
-frameInto p row out = settle (encodedOf p row) frameOf out
+abbrev pub rowFrameInto : List ℕ → List Field → List ℕ → Outcome ℕ × List ℕ
+rowFrameInto p row out = settle (encodedOf p row) frameOf out
 
 -- a row in an array of eight: what is not needed is Nothing
 unfoldable pub fieldsOf : List Cell → List Field

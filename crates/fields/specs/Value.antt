@@ -9,7 +9,7 @@ use Rattle.octets.specs.Outcome.{Outcome, accepted, refused}
 use Rattle.octets.specs.Choice.{pick, ifEq}
 use Rattle.octets.specs.Over.{into}
 use Rattle.octets.specs.Number.{littleAt, littleBytes, bigBytes}
-use Rattle.octets.specs.Place.{partOf, outsideOf}
+use Rattle.octets.specs.Place.{partOf, isOutside}
 use Rattle.octets.specs.declared.Place.{Place}
 use Rattle.fields.specs.declared.value.Value.{Value}
 use Rattle.fields.specs.declared.value.Value.the-variants.{Float, FixedPoint, Int, Int32, Unknown}
@@ -30,7 +30,7 @@ valueAt packet place =
     (Unknown place)
 
 abbrev pub valueRead : List ℕ → Place → Outcome Value
-valueRead packet place = pick (outsideOf place (length packet)) (refused outside) (accepted (valueAt packet place))
+valueRead packet place = pick (isOutside place (length packet)) (refused outside) (accepted (valueAt packet place))
 
 -- "Written: Float little-endian; FixedPoint and Int32 big-endian; Int little-endian then two zeros."
 abbrev pub valueBytes : Value → List ℕ → List ℕ
@@ -46,7 +46,7 @@ valueOutside (Float x) have = false
 valueOutside (FixedPoint x) have = false
 valueOutside (Int n) have = false
 valueOutside (Int32 n) have = false
-valueOutside (Unknown place) have = outsideOf place have
+valueOutside (Unknown place) have = isOutside place have
 
 abbrev pub valueInto : Value → List ℕ → List ℕ → Outcome ℕ × List ℕ
 valueInto v packet out = pick (valueOutside v (length packet)) (refused outside, out) (into (valueBytes v packet) out)

@@ -7,9 +7,9 @@ ghost use Prim.Native.Nat.{_*_, _≤_, min};
 ghost use lib.ListN.{length};
 ghost use Rattle.octets.specs.Outcome.{written};
 ghost use Rattle.octets.specs.Over.{over, into};
-ghost use Rattle.octets.specs.Place.{floatsAt, partOf, outsideOf};
+ghost use Rattle.octets.specs.Place.{floatsAt, partOf, isOutside};
 ghost use Rattle.fields.specs.Value.{valueBytes, valueOutside};
-ghost use Rattle.fields.specs.Row.{bytesOf, packetOf, misaddressed, misplaced, anyOf, Sound, AllSound, encodedOf, counted, writeInto, frameInto, fieldsOf, padded};
+ghost use Rattle.fields.specs.Row.{fieldBytes, packetOf, misaddressed, misplaced, anyOf, Writable, AllWritable, encodedOf, encodedLength, rowInto, rowFrameInto, fieldsOf, padded};
 use crate::addr::Addr;
 use crate::value::Value;
 use octets::Place;
@@ -56,7 +56,7 @@ fn is_misplaced(field: Field, have: usize) -> bool
         Field::Word(_) => false,
         Field::Address(_) => false,
         Field::Coded(value) => value.is_outside(have),
-        Field::Payload(place) => octets::outside(place, have),
+        Field::Payload(place) => octets::is_outside(place, have),
         Field::Floats { start, count } => octets::floats_outside(start, count, have),
     }
 }
@@ -93,8 +93,8 @@ fn any_misplaced(row: [Cell; 8], have: usize) -> bool
 
 // How many bytes a field takes, and 255 where it is more: no packet is that long.
 fn field_len(field: Field, payload: &[u8]) -> usize
-    requires { ⌜ Sound (now payload) field ⌝ }
-    ensures { λ r. ⌜ r ≡ min 255 (length (bytesOf (now (payload .entry)) field)) ⌝ }
+    requires { ⌜ Writable (now payload) field ⌝ }
+    ensures { λ r. ⌜ r ≡ min 255 (length (fieldBytes (now (payload .entry)) field)) ⌝ }
 {
     match field {
         Field::Nothing => 0,
@@ -140,7 +140,7 @@ fn floats_len(count: usize) -> usize
 
 // The same of a whole row.
 fn row_len(row: [Cell; 8], payload: &[u8]) -> usize
-    requires { ⌜ AllSound (now payload) (fieldsOf row) ⌝ }
+    requires { ⌜ AllWritable (now payload) (fieldsOf row) ⌝ }
     ensures { λ r. ⌜ r ≡ min 255 (length (packetOf (now (payload .entry)) (fieldsOf row))) ⌝ }
 {
     let mut total = 0;
@@ -157,7 +157,7 @@ fn row_len(row: [Cell; 8], payload: &[u8]) -> usize
 
 // What writing the row comes to: how many bytes, at most 254, or 8, 7 or 5.
 fn settled(row: [Cell; 8], payload: &[u8]) -> Written
-    ensures { λ r. ⌜ written r ≡ counted (encodedOf (now (payload .entry)) (fieldsOf row)) ⌝ }
+    ensures { λ r. ⌜ written r ≡ encodedLength (encodedOf (now (payload .entry)) (fieldsOf row)) ⌝ }
 {
     if any_misaddressed(row) {
         return Written::Refused(refusal::ADDRESS_LENGTH);
@@ -173,8 +173,8 @@ fn settled(row: [Cell; 8], payload: &[u8]) -> Written
 }
 
 fn put_field(field: Field, payload: &[u8], out: &mut [u8]) -> Written
-    requires { ⌜ Sound (now payload) field ⌝ }
-    ensures { λ r. ⌜ (written r, now (out .exit)) ≡ into (bytesOf (now (payload .entry)) field) (now (out .entry)) ⌝ }
+    requires { ⌜ Writable (now payload) field ⌝ }
+    ensures { λ r. ⌜ (written r, now (out .exit)) ≡ into (fieldBytes (now (payload .entry)) field) (now (out .entry)) ⌝ }
 {
     match field {
         Field::Nothing => Written::Bytes(0),
@@ -188,7 +188,7 @@ fn put_field(field: Field, payload: &[u8], out: &mut [u8]) -> Written
 }
 
 fn put_floats(payload: &[u8], start: usize, count: usize, out: &mut [u8]) -> Written
-    requires { ⌜ outsideOf (floatsAt start count) (length (now payload)) ≡ false ⌝ }
+    requires { ⌜ isOutside (floatsAt start count) (length (now payload)) ≡ false ⌝ }
     ensures { λ r. ⌜ (written r, now (out .exit)) ≡ into (partOf (now (payload .entry)) (floatsAt start count)) (now (out .entry)) ⌝ }
 {
     let len = count * 4;
@@ -197,7 +197,7 @@ fn put_floats(payload: &[u8], start: usize, count: usize, out: &mut [u8]) -> Wri
 
 // Writes the row over the start of out, field by field.
 fn put_row(row: [Cell; 8], payload: &[u8], out: &mut [u8])
-    requires { ⌜ AllSound (now payload) (fieldsOf row) ⌝ }
+    requires { ⌜ AllWritable (now payload) (fieldsOf row) ⌝ }
     requires { ⌜ length (packetOf (now payload) (fieldsOf row)) ≤ 254 ⌝ }
     requires { ⌜ length (packetOf (now payload) (fieldsOf row)) ≤ length (now out) ⌝ }
     ensures { λ _. ⌜ now (out .exit) ≡ over (packetOf (now (payload .entry)) (fieldsOf row)) (now (out .entry)) ⌝ }
@@ -216,7 +216,7 @@ fn put_row(row: [Cell; 8], payload: &[u8], out: &mut [u8])
 
 // Writes the packet of a row over the start of out.
 pub fn write(row: [Cell; 8], payload: &[u8], out: &mut [u8]) -> Written
-    ensures { λ r. ⌜ (written r, now (out .exit)) ≡ writeInto (now (payload .entry)) (fieldsOf row) (now (out .entry)) ⌝ }
+    ensures { λ r. ⌜ (written r, now (out .exit)) ≡ rowInto (now (payload .entry)) (fieldsOf row) (now (out .entry)) ⌝ }
 {
     match settled(row, payload) {
         Written::Bytes(n) => {
@@ -233,7 +233,7 @@ pub fn write(row: [Cell; 8], payload: &[u8], out: &mut [u8]) -> Written
 // Writes the frame of a row's packet: the packet to out from its second byte onward, which is then
 // closed.
 pub fn frame(row: [Cell; 8], payload: &[u8], out: &mut [u8]) -> Written
-    ensures { λ r. ⌜ (written r, now (out .exit)) ≡ frameInto (now (payload .entry)) (fieldsOf row) (now (out .entry)) ⌝ }
+    ensures { λ r. ⌜ (written r, now (out .exit)) ≡ rowFrameInto (now (payload .entry)) (fieldsOf row) (now (out .entry)) ⌝ }
 {
     match settled(row, payload) {
         Written::Bytes(n) => {

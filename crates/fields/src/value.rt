@@ -36,7 +36,7 @@ impl Value {
     pub fn from_bytes(packet: &[u8], place: Place) -> ReadValue
         ensures { λ r. ⌜ readValue r ≡ valueRead (now (packet .entry)) place ⌝ }
     {
-        if octets::outside(place, packet.len()) {
+        if octets::is_outside(place, packet.len()) {
             return ReadValue::Refused(refusal::OUTSIDE);
         }
         ReadValue::Is(Value::at(packet, place))
@@ -72,7 +72,7 @@ impl Value {
             Value::FixedPoint(_) => false,
             Value::Int(_) => false,
             Value::Int32(_) => false,
-            Value::Unknown(place) => octets::outside(place, have),
+            Value::Unknown(place) => octets::is_outside(place, have),
         }
     }
 
@@ -100,7 +100,7 @@ fn put4(bytes: [u8; 4], out: &mut [u8]) -> Written
 fn put_part(packet: &[u8], place: Place, out: &mut [u8]) -> Written
     ensures { λ r. ⌜ (written r, now (out .exit)) ≡ valueInto (Unknown place) (now (packet .entry)) (now (out .entry)) ⌝ }
 {
-    if octets::outside(place, packet.len()) {
+    if octets::is_outside(place, packet.len()) {
         return Written::Refused(refusal::OUTSIDE);
     }
     octets::put(octets::part(packet, place), out)

@@ -12,7 +12,7 @@ use lib.Seq.{getD-take, getD-drop, take-all, length-take-le}
 use Rattle.octets.specs.Refusals.{ends, wrongField}
 use Rattle.octets.specs.Outcome.{Outcome, accepted, refused, andThen}
 use Rattle.octets.specs.Choice.{ifLt, ifEq}
-use Rattle.octets.specs.Number.{at, Bytes, bigAt, littleAt}
+use Rattle.octets.specs.Number.{at, Octets, bigAt, littleAt}
 use Rattle.octets.specs.Place.{placeAt, partOf}
 use Rattle.octets.specs.Reading.{rest}
 use Rattle.octets.specs.declared.Place.{Place}
@@ -27,11 +27,11 @@ use Rattle.fields.specs.declared.value.Value.{Value}
 use Rattle.fields.specs.declared.row.Field.the-variants.{Coded}
 use Rattle.fields.proofs.Again.{From, ended, value}
 use Rattle.fields.proofs.Rows.{sound-of}
-use Rattle.commands.specs.Decode.{r, commandOf, kindOf}
+use Rattle.commands.specs.Decode.{r, commandOf, commandBy}
 use Rattle.commands.specs.declared.Commands.{Commands}
 use Rattle.commands.specs.declared.Commands.the-variants.{WriteMemory, Write as WriteCommand}
 use Rattle.responses.specs.declared.Responses.the-variants.{Ack}
-use Rattle.processor.specs.Memory.{Write, bytes, word}
+use Rattle.processor.specs.Memory.{Store, toEeprom, toSettings}
 use Rattle.device.specs.Effect.{effect, effectOf}
 use Rattle.processor.specs.declared.Device.{Device}
 use Rattle.saves.specs.Means.{packetMeans, frameMeans, memoryMeans, wordMeans}
@@ -45,14 +45,14 @@ strict-plain frame h =
     sym (other _ _ _ _ _ (begun .0) (above _ _ _ _ _ (omega arith) (sym (sum .1))))
 
 -- what a packet's command is, and that it puts this write
-pub record Puts (e s : ℕ) (p : List ℕ) (w : Write) : Type 0 where
+pub record Puts (e s : ℕ) (p : List ℕ) (w : Store) : Type 0 where
   pub command : Commands
   pub reads : commandOf p ≡ accepted command
   pub does : (d : Device) → effectOf d p e s command ≡ accepted (effect Ack (w ∷ []))
 
 module _ (e s : ℕ) (p : List ℕ) (short : length p ≤ 254) where
-  memory-puts : at p 0 ≡ 0x04 → 3 ≤ length p → bigAt 2 p 1 + (length p - 3) ≤ e → Puts e s p (bytes (bigAt 2 p 1) (drop 3 p))
-  unfolding commandOf kindOf partOf
+  memory-puts : at p 0 ≡ 0x04 → 3 ≤ length p → bigAt 2 p 1 + (length p - 3) ≤ e → Puts e s p (toEeprom (bigAt 2 p 1) (drop 3 p))
+  unfolding commandOf commandBy partOf
   memory-puts k long inside =
       record {
         command = WriteMemory (bigAt 2 p 1) (rest 3 p);
@@ -61,7 +61,7 @@ module _ (e s : ℕ) (p : List ℕ) (short : length p ≤ 254) where
       }
 
   -- the value of a Write of four bytes, whichever kind it reads as
-  module _ (octets : Bytes p) (long : length p ≡ 8) where
+  module _ (octets : Octets p) (long : length p ≡ 8) where
     abbrev v : Value
     v = valueAt p (placeAt 4 4)
 
@@ -81,10 +81,10 @@ module _ (e s : ℕ) (p : List ℕ) (short : length p ≤ 254) where
         sym (rw (n, take-append-drop) at (little-behind (take 4 p) (drop 4 p) 4 0))
 
     reads-write : at p 0 ≡ 0x13 → commandOf p ≡ accepted (WriteCommand (addrAt 3 p 1) v)
-    unfolding commandOf kindOf ifLt ifEq
+    unfolding commandOf commandBy ifLt ifEq
     reads-write k = rw (k, long)
 
-    word-puts : at p 0 ≡ 0x13 → addrAt 3 p 1 .val < s → Puts e s p (word (addrAt 3 p 1 .val) (littleAt 4 p 4))
+    word-puts : at p 0 ≡ 0x13 → addrAt 3 p 1 .val < s → Puts e s p (toSettings (addrAt 3 p 1 .val) (littleAt 4 p 4))
     word-puts k inside =
         record {
           command = WriteCommand (addrAt 3 p 1) v;
@@ -92,8 +92,8 @@ module _ (e s : ℕ) (p : List ℕ) (short : length p ≤ 254) where
           does = λ d. rw (placed, bytes-are, value-is) (sym (same _ _ _ _ _ (length-drop 4 p ∙ omega arith) (below _ _ _ _ _ inside refl)));
         }
 
-  module _ (octets : Bytes p) (w : Write) where
-    is-this : (x : Write) → Puts e s p x → accepted x ≡ accepted w → Puts e s p w
+  module _ (octets : Octets p) (w : Store) where
+    is-this : (x : Store) → Puts e s p x → accepted x ≡ accepted w → Puts e s p w
     is-this x h g = let same : x ≡ w = cc in subst (Puts e s p) same h
 
     of-memory : at p 0 ≡ 0x04 → ifLt (r p) 2 (refused ends) (memoryMeans e p) ≡ accepted w → Puts e s p w
@@ -116,7 +116,7 @@ module _ (e s : ℕ) (p : List ℕ) (short : length p ≤ 254) where
         (was-above _ _ _ _ h .1)
 
 -- ---- a whole frame
-pub part-octets : (l : List ℕ) (place : Place) → Bytes l → Bytes (partOf l place)
+pub part-octets : (l : List ℕ) (place : Place) → Octets l → Octets (partOf l place)
 unfolding partOf
 part-octets l place octets i = go (lt-or-le i (place .len))
   where
@@ -124,12 +124,12 @@ part-octets l place octets i = go (lt-or-le i (place .len))
     go (inl h) = rw (getD-take (place .len) (drop (place .start) l) i 0 h, getD-drop) (octets (place .start + i))
     go (inr h) = rw (past (take (place .len) (drop (place .start) l)) i (omega (arith, length-take (place .len) (drop (place .start) l)))) (lit< tt)
 
-pub record Sends (e s : ℕ) (frame : List ℕ) (w : Write) : Type 0 where
+pub record Sends (e s : ℕ) (frame : List ℕ) (w : Store) : Type 0 where
   pub place : Place
   pub receives : plainOf frame ≡ accepted place
   pub puts : Puts e s (partOf frame place) w
 
-module _ (e s : ℕ) (frame : List ℕ) (octets : Bytes frame) (w : Write) where
+module _ (e s : ℕ) (frame : List ℕ) (octets : Octets frame) (w : Store) where
   -- a length byte is at most 255
   packet-short : (place : Place) → plainOf frame ≡ accepted place → length (partOf frame place) ≤ 254
   unfolding partOf

@@ -7,14 +7,14 @@ use mathlib.Core.List.{List, [], _∷_}
 use lib.ListN.{length}
 use Rattle.octets.specs.Number.{bigBytes}
 use Rattle.octets.specs.Outcome.{Outcome, accepted, refused, onAccepted}
-use Rattle.facts.specs.Eeprom.{serial}
-use Rattle.processor.specs.Memory.{Memory, Write, bytes, word, put, store}
-use Rattle.processor.specs.Named.{orBefore, Within, AllWithin}
+use Rattle.facts.specs.Eeprom.{atSerial}
+use Rattle.processor.specs.Memory.{Memory, Store, toEeprom, toSettings, storeOne, store}
+use Rattle.processor.specs.Puts.{orBefore, Within, AllWithin}
 use Rattle.processor.specs.declared.Device.{Device}
 use Rattle.processor.proofs.Stores.{length-put}
-use Rattle.processor.proofs.Named.{byte-after, word-after}
+use Rattle.processor.proofs.Puts.{byte-after, word-after}
 use Rattle.saves.specs.Save.{savedInto}
-use Rattle.history.specs.History.{Place, byte, setting, content, puts, Call, bare, new, receive, execute, execute-into, write-u8, write-u16, write-u32, set-serial, set-timestamp, replay, save, answer, step, named, taken, history, later, lastWrite, last}
+use Rattle.history.specs.History.{Location, inEeprom, inSettings, content, puts, Call, bare, new, receive, execute, execute-into, write-u8, write-u16, write-u32, set-serial, set-timestamp, replay, save, answer, step, named, namedIfAccepted, history, later, lastStored, last}
 use Rattle.history.specs.Restores.{SameSizes}
 use Rattle.history.proofs.Steps.{Right, executed-right, executed-into-right, received-right, written-right, stamped-right}
 use Rattle.history.proofs.Makers.{bare-right, new-right}
@@ -30,7 +30,7 @@ right d (execute-into c p octets out) m = executed-into-right d m out c p
 right d (write-u8 a value) m = written-right m a (value ∷ [])
 right d (write-u16 a value) m = written-right m a (bigBytes 2 value)
 right d (write-u32 a value) m = written-right m a (bigBytes 4 value)
-right d (set-serial value) m = written-right m serial (bigBytes 4 (value - 900000))
+right d (set-serial value) m = written-right m atSerial (bigBytes 4 (value - 900000))
 right d (set-timestamp value) m = stamped-right m value
 right d (replay l octets) m = replay-right d m l octets
 right d (save out) m = go (savedInto m out .0)
@@ -40,40 +40,40 @@ right d (save out) m = go (savedInto m out .0)
     go (refused k) = (refl, tt)
 
 -- ---- writes
-pub put-sizes : (w : Write) (m : Memory) → SameSizes (put w m) m
-put-sizes (bytes a b) m = (length-put a b (m .eeprom), refl)
-put-sizes (word a w) m = (refl, length-put a (w ∷ []) (m .settings))
+pub put-sizes : (w : Store) (m : Memory) → SameSizes (storeOne w m) m
+put-sizes (toEeprom a b) m = (length-put a b (m .eeprom), refl)
+put-sizes (toSettings a w) m = (refl, length-put a (w ∷ []) (m .settings))
 
-store-sizes : (ws : List Write) (m : Memory) → SameSizes (store ws m) m
+store-sizes : (ws : List Store) (m : Memory) → SameSizes (store ws m) m
 store-sizes [] m = (refl, refl)
-store-sizes (w ∷ ws) m = let p = put-sizes w m in let q = store-sizes ws (put w m) in (q .0 ∙ p .0, q .1 ∙ p .1)
+store-sizes (w ∷ ws) m = let p = put-sizes w m in let q = store-sizes ws (storeOne w m) in (q .0 ∙ p .0, q .1 ∙ p .1)
 
-put-at : (w : Write) (m : Memory) (place : Place) → Within (length (m .eeprom)) (length (m .settings)) w → content (put w m) place ≡ orBefore (puts w place) (content m place)
-put-at w m (byte i) h = byte-after w m h i
-put-at w m (setting i) h = word-after w m h i
+put-at : (w : Store) (m : Memory) (place : Location) → Within (length (m .eeprom)) (length (m .settings)) w → content (storeOne w m) place ≡ orBefore (puts w place) (content m place)
+put-at w m (inEeprom i) h = byte-after w m h i
+put-at w m (inSettings i) h = word-after w m h i
 
 or-later : (o p : Option ℕ) (n : ℕ) → orBefore o (orBefore p n) ≡ orBefore (later o p) n
 or-later none p n = refl
 or-later (some v) p n = refl
 
-store-at : (ws : List Write) (m : Memory) (place : Place) → AllWithin (length (m .eeprom)) (length (m .settings)) ws → content (store ws m) place ≡ orBefore (lastWrite ws place) (content m place)
+store-at : (ws : List Store) (m : Memory) (place : Location) → AllWithin (length (m .eeprom)) (length (m .settings)) ws → content (store ws m) place ≡ orBefore (lastStored ws place) (content m place)
 store-at [] m place h = refl
 store-at (w ∷ ws) m place h =
     let kept = put-sizes w m in
-    store-at ws (put w m) place (rw (kept .0, kept .1) (h .1)) ∙ rw (put-at w m place (h .0)) (or-later (lastWrite ws place) (puts w place) (content m place))
+    store-at ws (storeOne w m) place (rw (kept .0, kept .1) (h .1)) ∙ rw (put-at w m place (h .0)) (or-later (lastStored ws place) (puts w place) (content m place))
 
 -- ---- histories
 module _ (d : Device) where
-  pub step-at : (c : Call) (m : Memory) (place : Place) → content (step d c m) place ≡ orBefore (lastWrite (taken d c m) place) (content m place)
-  step-at c m place = let r = right d c m in rw (r .0) (store-at (taken d c m) m place (r .1))
+  pub step-at : (c : Call) (m : Memory) (place : Location) → content (step d c m) place ≡ orBefore (lastStored (namedIfAccepted d c m) place) (content m place)
+  step-at c m place = let r = right d c m in rw (r .0) (store-at (namedIfAccepted d c m) m place (r .1))
 
-  pub holds-last : (cs : List Call) (m : Memory) (place : Place) → content (history d cs m) place ≡ orBefore (last d cs m place) (content m place)
+  pub holds-last : (cs : List Call) (m : Memory) (place : Location) → content (history d cs m) place ≡ orBefore (last d cs m place) (content m place)
   holds-last [] m place = refl
   holds-last (c ∷ cs) m place =
-      holds-last cs (step d c m) place ∙ rw (step-at c m place) (or-later (last d cs (step d c m) place) (lastWrite (taken d c m) place) (content m place))
+      holds-last cs (step d c m) place ∙ rw (step-at c m place) (or-later (last d cs (step d c m) place) (lastStored (namedIfAccepted d c m) place) (content m place))
 
   step-sizes : (c : Call) (m : Memory) → SameSizes (step d c m) m
-  step-sizes c m = let r = right d c m in rw (r .0) (store-sizes (taken d c m) m)
+  step-sizes c m = let r = right d c m in rw (r .0) (store-sizes (namedIfAccepted d c m) m)
 
   pub lengths-kept : (cs : List Call) (m : Memory) → SameSizes (history d cs m) m
   lengths-kept [] m = (refl, refl)

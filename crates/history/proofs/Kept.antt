@@ -7,14 +7,14 @@ use Rattle.octets.specs.Number.{at}
 use Rattle.processor.specs.Memory.{Memory}
 use Rattle.processor.specs.declared.Device.{Device}
 use Rattle.saves.specs.Writes.{Words}
-use Rattle.history.specs.History.{Call, setting, answer, step, named, ifAccepted, taken, history, lastWrite}
+use Rattle.history.specs.History.{Call, inSettings, answer, step, named, ifAccepted, namedIfAccepted, history, lastStored}
 use Rattle.history.proofs.History.{step-at}
 use Rattle.history.proofs.Words.{AllWords, last-small, small-or}
 use Rattle.history.proofs.Values.{named-words}
 
 module _ (d : Device) where
   step-words : (c : Call) (m : Memory) → Words (m .settings) → Words (step d c m .settings)
-  step-words c m words i = rw (step-at d c m (setting i)) (small-or (lastWrite (taken d c m) (setting i)) (at (m .settings) i) (last-small (taken d c m) i (go (answer d c m))) (words i))
+  step-words c m words i = rw (step-at d c m (inSettings i)) (small-or (lastStored (namedIfAccepted d c m) (inSettings i)) (at (m .settings) i) (last-small (namedIfAccepted d c m) i (go (answer d c m))) (words i))
     where
       e : ℕ
       e = length (m .eeprom)

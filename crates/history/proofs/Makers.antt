@@ -9,13 +9,13 @@ use Rattle.octets.specs.Refusals.{outside, wrongSizes}
 use Rattle.octets.specs.Outcome.{Outcome, accepted, refused, onAccepted}
 use Rattle.octets.specs.Choice.{pick}
 use Rattle.octets.proofs.Choosing.{either-lt, either-eq}
-use Rattle.processor.specs.Memory.{Memory, memory, Write, store, wronglySized}
-use Rattle.processor.specs.Named.{Within, AllWithin}
+use Rattle.processor.specs.Memory.{Memory, memory, Store, store, oversized}
+use Rattle.processor.specs.Puts.{Within, AllWithin}
 use Rattle.processor.specs.Create.{bareMemory, bareOf, newWrites, anyBeyond, withMeters, newMemory, newOf}
 use Rattle.processor.specs.declared.Device.{Device}
 use Rattle.processor.proofs.Stores.{length-put, length-store}
 use Rattle.saves.specs.Save.{blocks}
-use Rattle.saves.specs.Writes.{each, blockWrite, wordWrite, writesFor}
+use Rattle.saves.specs.Writes.{each, blockStore, wordStore, writesFor}
 use Rattle.saves.proofs.Rising.{stored-whole}
 use Rattle.history.specs.History.{blank}
 use Rattle.history.specs.Restores.{SameSizes}
@@ -23,11 +23,11 @@ use Rattle.history.proofs.Steps.{Right}
 
 -- ---- the writes of a whole memory lie within it
 module _ (e s : ℕ) where
-  both-within : (a b : List Write) → AllWithin e s a → AllWithin e s b → AllWithin e s (a ++ b)
+  both-within : (a b : List Store) → AllWithin e s a → AllWithin e s b → AllWithin e s (a ++ b)
   both-within [] b h g = g
   both-within (w ∷ a) b h g = (h .0, both-within a b (h .1) g)
 
-  each-within : (f : ℕ → Write) (n : ℕ) → ((k : ℕ) → k < n → Within e s (f k)) → AllWithin e s (each f n)
+  each-within : (f : ℕ → Store) (n : ℕ) → ((k : ℕ) → k < n → Within e s (f k)) → AllWithin e s (each f n)
   unfolding each
   each-within f zero h = tt
   each-within f (suc n) h = both-within (each f n) (f n ∷ []) (each-within f n (λ k l. h k (omega arith))) (h n (omega arith), tt)
@@ -37,9 +37,9 @@ unfolding blocks
 whole-within m =
     let e = length (m .eeprom) in
     let s = length (m .settings) in
-    both-within e s (each (blockWrite (m .eeprom)) (blocks e)) (each (wordWrite (m .settings)) s)
-    (each-within e s (blockWrite (m .eeprom)) (blocks e) (λ k h. omega (arith, length-take 32 (drop (32 * k) (m .eeprom)), length-drop (32 * k) (m .eeprom))))
-    (each-within e s (wordWrite (m .settings)) s (λ k h. h))
+    both-within e s (each (blockStore (m .eeprom)) (blocks e)) (each (wordStore (m .settings)) s)
+    (each-within e s (blockStore (m .eeprom)) (blocks e) (λ k h. omega (arith, length-take 32 (drop (32 * k) (m .eeprom)), length-drop (32 * k) (m .eeprom))))
+    (each-within e s (wordStore (m .settings)) s (λ k h. h))
 
 whole-right : (m after : Memory) → SameSizes after m → Right m (accepted tt) (writesFor after) after
 whole-right m after same = (sym (stored-whole after m (sym (same .0)) (sym (same .1))), rw (← same .0, ← same .1) (whole-within after))
@@ -53,7 +53,7 @@ module _ (made : Device) (m : Memory) where
   s = length (m .settings)
 
   pub bare-right : let left = bareOf made m in Right m (onAccepted (λ x. tt) (left .0)) (writesFor (blank e s)) (left .1)
-  bare-right = go (wronglySized m)
+  bare-right = go (oversized m)
     where
       P : Outcome Device × Memory → Type 0
       P left = Right m (onAccepted (λ x. tt) (left .0)) (writesFor (blank e s)) (left .1)

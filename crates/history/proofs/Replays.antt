@@ -7,11 +7,11 @@ use lib.ListN.{length, drop}
 use Rattle.octets.specs.Refusals.{tooLong, wrongSizes}
 use Rattle.octets.specs.Outcome.{Outcome, accepted, refused}
 use Rattle.octets.specs.Choice.{pick, ifLt}
-use Rattle.octets.specs.Number.{Bytes}
+use Rattle.octets.specs.Number.{Octets}
 use Rattle.octets.proofs.Choosing.{either-lt, either-eq}
 use Rattle.octets.proofs.Outcomes.{then-both, same-value}
-use Rattle.processor.specs.Memory.{Memory, Write, wronglySized}
-use Rattle.processor.specs.Named.{Within, AllWithin}
+use Rattle.processor.specs.Memory.{Memory, Store, oversized}
+use Rattle.processor.specs.Puts.{Within, AllWithin}
 use Rattle.processor.specs.declared.Device.{Device}
 use Rattle.device.proofs.Effects.{within}
 use Rattle.saves.specs.Stream.{lengthOf, contentOf, behind, tagOf, Stream, streamUpTo, streamOf}
@@ -19,31 +19,31 @@ use Rattle.saves.specs.Means.{frameMeans, allMean}
 use Rattle.saves.specs.Replay.{Save, judgedFor, storing, replayOf}
 use Rattle.history.proofs.Codec.{part-octets, frame-command}
 use Rattle.saves.proofs.Storing.{judged-means}
-use Rattle.history.specs.History.{AllBytes, frameNames, framesNames, framesIn}
+use Rattle.history.specs.History.{AllOctets, frameNames, framesNames, framesIn}
 use Rattle.history.proofs.Octets.{behind-octets}
 use Rattle.history.proofs.Steps.{Right}
 
 -- ---- what is in bytes is bytes
-upto-octets : (n : ℕ) (l : List ℕ) → Bytes l → AllBytes (streamUpTo n l .frames)
+upto-octets : (n : ℕ) (l : List ℕ) → Octets l → AllOctets (streamUpTo n l .frames)
 unfolding streamUpTo contentOf behind
 upto-octets zero l octets = tt
 upto-octets (suc n) l octets =
-    either-eq (λ (s : Stream). AllBytes (s .frames)) (tagOf l) 0x10 _ _
+    either-eq (λ (s : Stream). AllOctets (s .frames)) (tagOf l) 0x10 _ _
     (λ h. (part-octets l _ octets, upto-octets n (behind l) (behind-octets l (3 + lengthOf l) octets))) (λ h. tt)
 
-pub frames-octets : (l : List ℕ) → Bytes l → AllBytes (framesIn l)
+pub frames-octets : (l : List ℕ) → Octets l → AllOctets (framesIn l)
 unfolding streamOf
 frames-octets l octets = upto-octets (length (drop 11 l)) (drop 11 l) (behind-octets l 11 octets)
 
 -- ---- a frame that is taken names its write, which lies within
 module _ (d : Device) (e s : ℕ) where
-  frame-names : (frame : List ℕ) → Bytes frame → (w : Write) → frameMeans e s frame ≡ accepted w → (frameNames d e s frame ≡ w ∷ []) × Within e s w
+  frame-names : (frame : List ℕ) → Octets frame → (w : Store) → frameMeans e s frame ≡ accepted w → (frameNames d e s frame ≡ w ∷ []) × Within e s w
   frame-names frame octets w h =
       let sent = frame-command e s frame octets w h in
       let does = sent .puts .does d in
       (rw (sent .receives, sent .puts .reads, does), within e s d _ (sent .puts .command) _ does .0)
 
-  pub frames-names : (frames : List (List ℕ)) → AllBytes frames → (ws : List Write) → allMean e s frames ≡ accepted ws → (framesNames d e s frames ≡ ws) × AllWithin e s ws
+  pub frames-names : (frames : List (List ℕ)) → AllOctets frames → (ws : List Store) → allMean e s frames ≡ accepted ws → (framesNames d e s frames ≡ ws) × AllWithin e s ws
   frames-names [] octets ws h = let none : [] ≡ ws = same-value h in rw (← none) (refl, tt)
   frames-names (frame ∷ frames) octets ws h =
       let first = then-both (frameMeans e s frame) _ h in
@@ -54,9 +54,9 @@ module _ (d : Device) (e s : ℕ) where
       let all : w ∷ others .value ≡ ws = same-value (others .second) in
       ((λ i. one .0 i ++ rest .0 i) ∙ all, subst (AllWithin e s) all (one .1, rest .1))
 
-pub replay-right : (d : Device) (m : Memory) (l : List ℕ) → Bytes l → Right m (replayOf m l .0) (framesNames d (length (m .eeprom)) (length (m .settings)) (framesIn l)) (replayOf m l .1)
+pub replay-right : (d : Device) (m : Memory) (l : List ℕ) → Octets l → Right m (replayOf m l .0) (framesNames d (length (m .eeprom)) (length (m .settings)) (framesIn l)) (replayOf m l .1)
 unfolding replayOf
-replay-right d m l octets = by-size (wronglySized m)
+replay-right d m l octets = by-size (oversized m)
   where
     e : ℕ
     e = length (m .eeprom)

@@ -9,7 +9,7 @@ use lib.ListN.{length, take}
 use Rattle.octets.specs.Outcome.{accepted}
 use Rattle.octets.specs.Over.{over}
 use Rattle.octets.proofs.Choosing.{above}
-use Rattle.processor.specs.Memory.{Memory, wronglySized}
+use Rattle.processor.specs.Memory.{Memory, oversized}
 use Rattle.processor.specs.declared.Device.{Device}
 use Rattle.saves.specs.Save.{saveOf, room, savedInto}
 use Rattle.saves.specs.Writes.{Words}
@@ -22,14 +22,14 @@ use Rattle.history.proofs.Kept.{words-kept}
 
 saved : (m : Memory) → Sized m → (out : List ℕ) → roomFor m ≤ length out → savedInto m out ≡ (accepted (roomFor m), over (saveOf m) out)
 saved m fits out enough =
-    let sized : wronglySized m ≡ false = sym (above _ _ _ _ _ (fits .0) (above _ _ _ _ _ (fits .1) refl)) in
+    let sized : oversized m ≡ false = sym (above _ _ _ _ _ (fits .0) (above _ _ _ _ _ (fits .1) refl)) in
     rw (sized, ← length-save m) (sym (above _ _ _ _ _ (omega (arith, length-save m)) refl))
 
 one-other : (m m′ : Memory) → Sized m → Words (m .settings) → SameSizes m′ m → (out : List ℕ) → roomFor m ≤ length out → Restored m m′ out
 one-other m m′ fits words same out enough =
     let wrote = saved m fits out enough in
     let front : take (roomFor m) (over (saveOf m) out) ≡ saveOf m = rw (← length-save m) (in-front m out) in
-    record { written = rw wrote; replayed = rw (wrote, front) (restored m (fits .0) (fits .1) words m′ (same .0) (same .1)) }
+    record { isWritten = rw wrote; isReplayed = rw (wrote, front) (restored m (fits .0) (fits .1) words m′ (same .0) (same .1)) }
 
 pub restores : (d d′ : Device) (cs cs′ : List Call) (m m′ : Memory) → Sized m → Words (m .settings) → SameSizes m′ m → (out : List ℕ) → roomFor m ≤ length out
     → Restored (history d cs m) (history d′ cs′ m′) out

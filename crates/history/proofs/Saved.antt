@@ -6,7 +6,7 @@ use mathlib.Core.List.{List, [], _∷_, _++_}
 use native.Mathlib.Omega.{arith}
 use lib.Dec.{lit<}
 use lib.ListN.{length, take, drop}
-use Rattle.octets.specs.Number.{at, Bytes, bigBytes, littleBytes}
+use Rattle.octets.specs.Number.{at, Octets, bigBytes, littleBytes}
 use Rattle.octets.specs.Place.{placeAt, partOf}
 use Rattle.packet.specs.Frame.{frameOf}
 use Rattle.processor.specs.Memory.{Memory}
@@ -16,38 +16,38 @@ use Rattle.saves.specs.Writes.{Words, each, framesFor, writesFor}
 use Rattle.saves.proofs.Saved.{memory-packet, length-memory-packet, word-packet, length-word-packet}
 use Rattle.saves.proofs.Writes.{saved-writes}
 use Rattle.history.proofs.Codec.{part-octets}
-use Rattle.history.specs.History.{AllBytes, framesNames}
+use Rattle.history.specs.History.{AllOctets, framesNames}
 use Rattle.history.specs.Restores.{Sized}
 use Rattle.history.proofs.Octets.{one-more, both-octets, big-octets, little-octets, frame-octets}
 use Rattle.history.proofs.Replays.{frames-names}
 
-all-both : (a b : List (List ℕ)) → AllBytes a → AllBytes b → AllBytes (a ++ b)
+all-both : (a b : List (List ℕ)) → AllOctets a → AllOctets b → AllOctets (a ++ b)
 all-both [] b x y = y
 all-both (f ∷ a) b x y = (x .0, all-both a b (x .1) y)
 
-all-each : (packet : ℕ → List ℕ) (n : ℕ) → ((k : ℕ) → length (packet k) ≤ 254) → ((k : ℕ) → Bytes (packet k)) → AllBytes (each (λ k. frameOf (packet k)) n)
+all-each : (packet : ℕ → List ℕ) (n : ℕ) → ((k : ℕ) → length (packet k) ≤ 254) → ((k : ℕ) → Octets (packet k)) → AllOctets (each (λ k. frameOf (packet k)) n)
 unfolding each
 all-each packet zero short octets = tt
 all-each packet (suc n) short octets = all-both (each (λ k. frameOf (packet k)) n) (frameOf (packet n) ∷ []) (all-each packet n short octets) (frame-octets (packet n) (short n) (octets n), tt)
 
-module _ (m : Memory) (octets : Bytes (m .eeprom)) where
+module _ (m : Memory) (octets : Octets (m .eeprom)) where
   abbrev block : ℕ → List ℕ
   block k = take 32 (drop (32 * k) (m .eeprom))
 
-  block-octets : (k : ℕ) → Bytes (block k)
+  block-octets : (k : ℕ) → Octets (block k)
   unfolding partOf
   block-octets k = part-octets (m .eeprom) (placeAt (32 * k) 32) octets
 
-  memory-octets : (k : ℕ) → Bytes (memoryPacket (m .eeprom) k)
+  memory-octets : (k : ℕ) → Octets (memoryPacket (m .eeprom) k)
   memory-octets k = rw memory-packet (one-more 0x04 (bigBytes 2 (32 * k) ++ block k) (lit< tt) (both-octets (bigBytes 2 (32 * k)) (block k) (big-octets 2 (32 * k)) (block-octets k)))
 
-  word-octets : (k : ℕ) → Bytes (wordPacket (m .settings) k)
+  word-octets : (k : ℕ) → Octets (wordPacket (m .settings) k)
   word-octets k =
       let address = bigBytes 3 (k % 2 ^ 23 + 2 ^ 23) in
       let value = littleBytes 4 (at (m .settings) k) in
       rw word-packet (one-more 0x13 (address ++ value) (lit< tt) (both-octets address value (big-octets 3 (k % 2 ^ 23 + 2 ^ 23)) (little-octets 4 (at (m .settings) k))))
 
-  all-frames : AllBytes (framesFor m)
+  all-frames : AllOctets (framesFor m)
   all-frames =
       let e = length (m .eeprom) in
       let s = length (m .settings) in

@@ -10,20 +10,20 @@ use Rattle.octets.specs.Place.{partOf}
 use Rattle.octets.proofs.Choosing.{either-lt}
 use Rattle.octets.proofs.Overlay.{length-over-at, put-inside}
 use Rattle.octets.proofs.InBytes.{length-big}
-use Rattle.facts.specs.Eeprom.{timestamp, timestamp2x4}
+use Rattle.facts.specs.Eeprom.{atTimestamp, atTimestamp2x4}
 use Rattle.commands.specs.declared.Commands.{Commands}
-use Rattle.processor.specs.Memory.{Memory, memory, Write, bytes, putAt, store}
+use Rattle.processor.specs.Memory.{Memory, memory, Store, toEeprom, putAt, store}
 use Rattle.device.specs.Effect.{effectOf}
-use Rattle.processor.specs.Named.{AllWithin}
+use Rattle.processor.specs.Puts.{AllWithin}
 use Rattle.processor.specs.Calls.{writeBytes, setTimestamp}
 use Rattle.device.specs.Execute.{Left, receivedInto, executedInto, executedRecord}
 use Rattle.processor.specs.declared.Device.{Device}
 use Rattle.device.proofs.Accepted.{Does, Received, received-does, executed-into-does, executed-does}
 use Rattle.device.proofs.Refusals.{Kept, received-kept, executed-into-kept, executed-kept}
-use Rattle.history.specs.History.{onBoth, writesOf, frameNames, ifAccepted}
+use Rattle.history.specs.History.{onBoth, writesIfAccepted, frameNames, ifAccepted}
 
 -- what is left where an outcome takes these writes
-abbrev pub Right : Memory → Outcome Unit → List Write → Memory → Type 0
+abbrev pub Right : Memory → Outcome Unit → List Store → Memory → Type 0
 Right m o ws after = (after ≡ store (ifAccepted o ws) m) × AllWithin (length (m .eeprom)) (length (m .settings)) (ifAccepted o ws)
 
 -- ---- commands
@@ -35,20 +35,20 @@ module _ (d : Device) (m : Memory) (out : List ℕ) where
   s = length (m .settings)
 
   -- refused calls keep all, so that the accepted ones are left
-  by-answer : {A : Type 0} (left : Left A) (ws : List Write) → Kept m out left → ((a : A) → left .0 ≡ accepted a → Right m (accepted tt) ws (left .1)) → Right m (onBoth left .0) ws (onBoth left .1)
+  by-answer : {A : Type 0} (left : Left A) (ws : List Store) → Kept m out left → ((a : A) → left .0 ≡ accepted a → Right m (accepted tt) ws (left .1)) → Right m (onBoth left .0) ws (onBoth left .1)
   by-answer left ws kept does = go (left .0) refl
     where
       go : (o : Outcome _) → left .0 ≡ o → Right m (onAccepted (λ a. tt) o) ws (left .1)
       go (accepted a) q = does a q
       go (refused k) q = (kept k q .0, tt)
 
-  does-right : (c : Commands) (p : List ℕ) (after : Memory) → Does d c p m after → Right m (accepted tt) (writesOf (effectOf d p e s c)) after
+  does-right : (c : Commands) (p : List ℕ) (after : Memory) → Does d c p m after → Right m (accepted tt) (writesIfAccepted (effectOf d p e s c)) after
   does-right c p after h = rw (h .means) (h .stores, h .inside)
 
-  pub executed-right : (c : Commands) (p : List ℕ) → let left = onBoth (executedRecord d c p m out) in Right m (left .0) (writesOf (effectOf d p e s c)) (left .1)
+  pub executed-right : (c : Commands) (p : List ℕ) → let left = onBoth (executedRecord d c p m out) in Right m (left .0) (writesIfAccepted (effectOf d p e s c)) (left .1)
   executed-right c p = by-answer _ _ (executed-kept m out d c p) (λ r q. does-right c p _ (executed-does m out d c p q))
 
-  pub executed-into-right : (c : Commands) (p : List ℕ) → let left = onBoth (executedInto d c p m out) in Right m (left .0) (writesOf (effectOf d p e s c)) (left .1)
+  pub executed-into-right : (c : Commands) (p : List ℕ) → let left = onBoth (executedInto d c p m out) in Right m (left .0) (writesIfAccepted (effectOf d p e s c)) (left .1)
   executed-into-right c p = by-answer _ _ (executed-into-kept m out d c p) (λ n q. does-right c p _ (executed-into-does m out d c p q))
 
   frame-right : (frame : List ℕ) (after : Memory) → Received m out d frame after → Right m (accepted tt) (frameNames d e s frame) after
@@ -59,16 +59,16 @@ module _ (d : Device) (m : Memory) (out : List ℕ) where
 
 -- ---- the calls on the EEPROM
 module _ (m : Memory) where
-  abbrev EepromRight : List Write → Outcome Unit × List ℕ → Type 0
+  abbrev EepromRight : List Store → Outcome Unit × List ℕ → Type 0
   EepromRight ws left = Right m (left .0) ws (memory (left .1) (m .settings))
 
-  pub written-right : (a : ℕ) (b : List ℕ) → EepromRight (bytes a b ∷ []) (writeBytes a b (m .eeprom))
+  pub written-right : (a : ℕ) (b : List ℕ) → EepromRight (toEeprom a b ∷ []) (writeBytes a b (m .eeprom))
   written-right a b =
-      either-lt (EepromRight (bytes a b ∷ [])) _ _ _ _ (λ h. (refl, tt))
-      (λ h. either-lt (EepromRight (bytes a b ∷ [])) _ _ _ _ (λ g. (refl, tt)) (λ g. (ap (λ (l : List ℕ). memory l (m .settings)) (put-inside (m .eeprom) a b g), (g, tt))))
+      either-lt (EepromRight (toEeprom a b ∷ [])) _ _ _ _ (λ h. (refl, tt))
+      (λ h. either-lt (EepromRight (toEeprom a b ∷ [])) _ _ _ _ (λ g. (refl, tt)) (λ g. (ap (λ (l : List ℕ). memory l (m .settings)) (put-inside (m .eeprom) a b g), (g, tt))))
 
   -- both places, in the code's order
-  pub stamped-right : (value : ℕ) → EepromRight (bytes timestamp (bigBytes 4 value) ∷ bytes timestamp2x4 (bigBytes 2 (value % 2 ^ 16)) ∷ []) (setTimestamp value (m .eeprom))
+  pub stamped-right : (value : ℕ) → EepromRight (toEeprom atTimestamp (bigBytes 4 value) ∷ toEeprom atTimestamp2x4 (bigBytes 2 (value % 2 ^ 16)) ∷ []) (setTimestamp value (m .eeprom))
   stamped-right value =
       either-lt P _ _ _ _ (λ h. (refl, tt)) (λ h. either-lt P _ _ _ _ (λ g. (refl, tt)) (λ g. either-lt P _ _ _ _ (λ k. (refl, tt)) (λ k. both g k)))
     where
@@ -79,11 +79,11 @@ module _ (m : Memory) where
       two = bigBytes 2 (value % 2 ^ 16)
 
       P : Outcome Unit × List ℕ → Type 0
-      P = EepromRight (bytes timestamp one ∷ bytes timestamp2x4 two ∷ [])
+      P = EepromRight (toEeprom atTimestamp one ∷ toEeprom atTimestamp2x4 two ∷ [])
 
-      both : timestamp + 4 ≤ length (m .eeprom) → timestamp2x4 + 2 ≤ length (m .eeprom) → P (accepted tt, overAt timestamp2x4 two (overAt timestamp one (m .eeprom)))
+      both : atTimestamp + 4 ≤ length (m .eeprom) → atTimestamp2x4 + 2 ≤ length (m .eeprom) → P (accepted tt, overAt atTimestamp2x4 two (overAt atTimestamp one (m .eeprom)))
       both g k =
-          let first : timestamp + length one ≤ length (m .eeprom) = rw length-big g in
-          let kept = length-over-at (m .eeprom) timestamp one first in
-          let second : timestamp2x4 + length two ≤ length (m .eeprom) = rw length-big k in
-          (ap (λ (l : List ℕ). memory l (m .settings)) (put-inside (overAt timestamp one (m .eeprom)) timestamp2x4 two (rw kept second) ∙ ap (putAt timestamp2x4 two) (put-inside (m .eeprom) timestamp one first)), (first, (second, tt)))
+          let first : atTimestamp + length one ≤ length (m .eeprom) = rw length-big g in
+          let kept = length-over-at (m .eeprom) atTimestamp one first in
+          let second : atTimestamp2x4 + length two ≤ length (m .eeprom) = rw length-big k in
+          (ap (λ (l : List ℕ). memory l (m .settings)) (put-inside (overAt atTimestamp one (m .eeprom)) atTimestamp2x4 two (rw kept second) ∙ ap (putAt atTimestamp2x4 two) (put-inside (m .eeprom) atTimestamp one first)), (first, (second, tt)))

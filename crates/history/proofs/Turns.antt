@@ -10,20 +10,20 @@ use Rattle.octets.specs.Refusals.{tooLong, wrongSizes}
 use Rattle.octets.specs.Outcome.{Outcome, accepted, refused, onAccepted}
 use Rattle.octets.specs.Choice.{pick, ifLt}
 use Rattle.octets.specs.Over.{over}
-use Rattle.octets.specs.Number.{Bytes}
+use Rattle.octets.specs.Number.{Octets}
 use Rattle.octets.proofs.Choosing.{above, either-lt, refused-accepted}
 use Rattle.octets.proofs.Outcomes.{then-both, same-value}
 use Rattle.packet.specs.Frame.{frameOf}
 use Rattle.fields.specs.Row.{packetOf, anyOf, encodedOf}
 use Rattle.responses.specs.declared.Responses.the-variants.{Ack}
-use Rattle.processor.specs.Memory.{Memory, Write, put, store, wronglySized}
+use Rattle.processor.specs.Memory.{Memory, Store, storeOne, store, oversized}
 use Rattle.device.specs.Execute.{answerInto, receivedInto}
 use Rattle.processor.specs.declared.Device.{Device}
 use Rattle.saves.specs.Means.{frameMeans, allMean}
 use Rattle.saves.specs.Replay.{Save, judgedFor, storing, replayOf}
 use Rattle.history.proofs.Codec.{Sends, frame-command}
 use Rattle.saves.proofs.Storing.{judged-means}
-use Rattle.history.specs.History.{history, AllBytes, inTurn, AllAccepted, framesIn}
+use Rattle.history.specs.History.{history, AllOctets, inTurn, AllAccepted, framesIn}
 use Rattle.history.proofs.Replays.{frames-octets}
 use Rattle.history.proofs.History.{put-sizes}
 
@@ -35,12 +35,12 @@ acknowledged out room =
     rw empty (sym (above _ _ _ _ _ room refl))
 
 module _ (d : Device) (out : List ℕ) (room : 2 ≤ length out) where
-  received-ack : (m : Memory) (frame : List ℕ) (w : Write) → wronglySized m ≡ false → Sends (length (m .eeprom)) (length (m .settings)) frame w
-      → (receivedInto d frame m out .0 ≡ accepted 2) × (receivedInto d frame m out .1 ≡ put w m)
+  received-ack : (m : Memory) (frame : List ℕ) (w : Store) → oversized m ≡ false → Sends (length (m .eeprom)) (length (m .settings)) frame w
+      → (receivedInto d frame m out .0 ≡ accepted 2) × (receivedInto d frame m out .1 ≡ storeOne w m)
   received-ack m frame w sized sent =
       rw (sized, sent .receives, sent .puts .reads, sent .puts .does d, acknowledged out room) (refl, refl)
 
-  in-turn : (frames : List (List ℕ)) (octets : AllBytes frames) (m : Memory) (ws : List Write) → wronglySized m ≡ false → allMean (length (m .eeprom)) (length (m .settings)) frames ≡ accepted ws
+  in-turn : (frames : List (List ℕ)) (octets : AllOctets frames) (m : Memory) (ws : List Store) → oversized m ≡ false → allMean (length (m .eeprom)) (length (m .settings)) frames ≡ accepted ws
       → AllAccepted d (inTurn frames octets out) m × (history d (inTurn frames octets out) m ≡ store ws m)
   in-turn [] octets m ws sized h = let none : [] ≡ ws = same-value h in (tt, rw (← none))
   in-turn (frame ∷ frames) octets m ws sized h =
@@ -51,21 +51,21 @@ module _ (d : Device) (out : List ℕ) (room : 2 ≤ length out) where
       let w = first .value in
       let one = received-ack m frame w sized (frame-command e s frame (octets .0) w (first .first)) in
       let kept = put-sizes w m in
-      let rest = in-turn frames (octets .1) (put w m) (others .value) (rw (kept .0, kept .1) sized) (rw (kept .0, kept .1) (others .first)) in
+      let rest = in-turn frames (octets .1) (storeOne w m) (others .value) (rw (kept .0, kept .1) sized) (rw (kept .0, kept .1) (others .first)) in
       let all : w ∷ others .value ≡ ws = same-value (others .second) in
       let calls = inTurn frames (octets .1) out in
-      ((ap (onAccepted (λ n. tt)) (one .0), subst (AllAccepted d calls) (sym (one .1)) (rest .0)), ap (history d calls) (one .1) ∙ rest .1 ∙ ap (λ (ws : List Write). store ws m) all)
+      ((ap (onAccepted (λ n. tt)) (one .0), subst (AllAccepted d calls) (sym (one .1)) (rest .0)), ap (history d calls) (one .1) ∙ rest .1 ∙ ap (λ (ws : List Store). store ws m) all)
 
 -- what is known of an accepted replay
 record Replayed (m : Memory) (l : List ℕ) (after : Memory) : Type 0 where
-  pub sized : wronglySized m ≡ false
+  pub sized : oversized m ≡ false
   pub save : Save
   pub judged : judgedFor (length (m .eeprom)) (length (m .settings)) l ≡ accepted save
   pub stores : after ≡ store (save .writes) m
 
 replayed : (m : Memory) (l : List ℕ) → replayOf m l .0 ≡ accepted tt → Replayed m l (replayOf m l .1)
 unfolding replayOf
-replayed m l = by-size (wronglySized m) refl
+replayed m l = by-size (oversized m) refl
   where
     o : Outcome Save
     o = judgedFor (length (m .eeprom)) (length (m .settings)) l
@@ -73,16 +73,16 @@ replayed m l = by-size (wronglySized m) refl
     P : Outcome Unit × Memory → Type 0
     P left = left .0 ≡ accepted tt → Replayed m l (left .1)
 
-    stored : wronglySized m ≡ false → (x : Outcome Save) → o ≡ x → P (storing m x)
+    stored : oversized m ≡ false → (x : Outcome Save) → o ≡ x → P (storing m x)
     stored q (refused k) r h = absurd (refused-accepted h)
     stored q (accepted save) r h = record { sized = q; save = save; judged = r; stores = refl }
 
-    by-size : (b : Bool) → wronglySized m ≡ b → P (pick b (refused wrongSizes, m) (ifLt 16777216 (length l) (refused tooLong, m) (storing m o)))
+    by-size : (b : Bool) → oversized m ≡ b → P (pick b (refused wrongSizes, m) (ifLt 16777216 (length l) (refused tooLong, m) (storing m o)))
     by-size true q = λ h. absurd (refused-accepted h)
     by-size false q = either-lt P _ _ _ _ (λ g h. absurd (refused-accepted h)) (λ g. stored q o refl)
 
 -- an output of two bytes is enough for each
-pub replay-in-turn : (d : Device) (m : Memory) (l : List ℕ) (octets : Bytes l) (out : List ℕ) → 2 ≤ length out → replayOf m l .0 ≡ accepted tt
+pub replay-in-turn : (d : Device) (m : Memory) (l : List ℕ) (octets : Octets l) (out : List ℕ) → 2 ≤ length out → replayOf m l .0 ≡ accepted tt
     → let calls = inTurn (framesIn l) (frames-octets l octets) out in AllAccepted d calls m × (history d calls m ≡ replayOf m l .1)
 replay-in-turn d m l octets out room h =
     let r = replayed m l h in

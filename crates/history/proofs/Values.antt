@@ -7,9 +7,9 @@ use lib.Ieee.{binary32, toBits}
 use Rattle.octets.specs.Refusals.{outside}
 use Rattle.octets.specs.Outcome.{Outcome, accepted, refused, andThen}
 use Rattle.octets.specs.Choice.{pick, ifLt, ifEq}
-use Rattle.octets.specs.Number.{at, Bytes, littleAt}
-use Rattle.octets.specs.Place.{partOf, outsideOf}
-use Rattle.octets.specs.declared.Place.{Place as Part}
+use Rattle.octets.specs.Number.{at, Octets, littleAt}
+use Rattle.octets.specs.Place.{partOf, isOutside}
+use Rattle.octets.specs.declared.Place.{Place}
 use Rattle.octets.proofs.Choosing.{either-lt, either-eq}
 use Rattle.octets.proofs.InBytes.{little-lt}
 use Rattle.packet.specs.Receipt.{plainOf}
@@ -21,17 +21,17 @@ use Rattle.commands.specs.declared.Commands.{Commands}
 use Rattle.commands.specs.declared.Commands.the-variants.{ReadHardwareId, ReadFloats, WriteMemory, ReadMemory, SetConfig, SetSource, SetMute, SetVolume, WriteBiquad, WriteBiquadBypass, Read, Write as WriteCommand, FirLoadStart, FirLoadData, FirLoadEnd, DiracBypass, BulkLoad, BulkLoadFilterData, Unk07, SwitchMux, Unknown}
 use Rattle.responses.specs.declared.Responses.{Responses}
 use Rattle.responses.specs.declared.Responses.the-variants.{Ack}
-use Rattle.processor.specs.Memory.{bytes, word}
+use Rattle.processor.specs.Memory.{toEeprom, toSettings}
 use Rattle.processor.specs.Create.{newMemory}
-use Rattle.device.specs.Effect.{Effect, effect, tellsOf, writeMemory, writeWord, setByte, effectOf}
+use Rattle.device.specs.Effect.{Effect, effect, tellsOf, writeMemoryDoes, writeDoes, setByte, effectOf}
 use Rattle.processor.specs.declared.Device.{Device}
 use Rattle.history.proofs.Codec.{part-octets}
-use Rattle.history.specs.History.{Call, bare, new, blank, receive, execute, execute-into, write-u8, write-u16, write-u32, set-serial, set-timestamp, replay, save, writesOf, AllBytes, frameNames, framesNames, framesIn, named}
+use Rattle.history.specs.History.{Call, bare, new, blank, receive, execute, execute-into, write-u8, write-u16, write-u32, set-serial, set-timestamp, replay, save, writesIfAccepted, AllOctets, frameNames, framesNames, framesIn, named}
 use Rattle.history.proofs.Octets.{big-octets, little-octets}
 use Rattle.history.proofs.Replays.{frames-octets}
 use Rattle.history.proofs.Words.{AllWords, both-words, whole-words, zero-words, meters-words}
 
-value-octets : (v : Value) (p : List ℕ) → Bytes p → Bytes (valueBytes v p)
+value-octets : (v : Value) (p : List ℕ) → Octets p → Octets (valueBytes v p)
 value-octets (Float x) p octets = little-octets 4 (toBits binary32 x)
 value-octets (FixedPoint x) p octets = big-octets 4 (x .0)
 value-octets (Int n) p octets = little-octets 4 n
@@ -40,22 +40,22 @@ value-octets (UnknownValue part) p octets = part-octets p part octets
 
 -- ---- commands
 abbrev WordsOf : Outcome Effect → Type 0
-WordsOf o = AllWords (writesOf o)
+WordsOf o = AllWords (writesIfAccepted o)
 
 module _ (d : Device) (e s : ℕ) where
-  module _ (p : List ℕ) (octets : Bytes p) where
-    of-memory : (a : ℕ) (part : Part) → WordsOf (writeMemory p e a part)
-    of-memory a part = go (outsideOf part (length p))
+  module _ (p : List ℕ) (octets : Octets p) where
+    of-memory : (a : ℕ) (part : Place) → WordsOf (writeMemoryDoes p e a part)
+    of-memory a part = go (isOutside part (length p))
       where
-        go : (b : Bool) → WordsOf (pick b (refused outside) (ifLt e (a + part .len) (refused outside) (accepted (effect Ack (bytes a (partOf p part) ∷ [])))))
+        go : (b : Bool) → WordsOf (pick b (refused outside) (ifLt e (a + part .len) (refused outside) (accepted (effect Ack (toEeprom a (partOf p part) ∷ [])))))
         go true = tt
         go false = either-lt WordsOf _ _ _ _ (λ h. tt) (λ h. tt)
 
-    of-word : (a : ℕ) (v : Value) → WordsOf (writeWord p s a v)
+    of-word : (a : ℕ) (v : Value) → WordsOf (writeDoes p s a v)
     of-word a v = go (valueOutside v (length p))
       where
         put : Outcome Effect
-        put = accepted (effect Ack (word a (littleAt 4 (valueBytes v p) 0) ∷ []))
+        put = accepted (effect Ack (toSettings a (littleAt 4 (valueBytes v p) 0) ∷ []))
 
         go : (b : Bool) → WordsOf (pick b (refused outside) (ifEq (length (valueBytes v p)) 4 (ifLt a s put (refused outside)) (accepted (tellsOf Ack))))
         go true = tt
@@ -87,18 +87,18 @@ module _ (d : Device) (e s : ℕ) where
     effect-words (SwitchMux a max arg slot) = tt
     effect-words (Unknown id payload) = tt
 
-  frame-words : (frame : List ℕ) → Bytes frame → AllWords (frameNames d e s frame)
+  frame-words : (frame : List ℕ) → Octets frame → AllWords (frameNames d e s frame)
   frame-words frame octets = received (plainOf frame)
     where
-      read : (part : Part) (o : Outcome Commands) → WordsOf (andThen o (effectOf d (partOf frame part) e s))
+      read : (part : Place) (o : Outcome Commands) → WordsOf (andThen o (effectOf d (partOf frame part) e s))
       read part (accepted c) = effect-words (partOf frame part) (part-octets frame part octets) c
       read part (refused k) = tt
 
-      received : (o : Outcome Part) → WordsOf (andThen o (λ (part : Part). andThen (commandOf (partOf frame part)) (effectOf d (partOf frame part) e s)))
+      received : (o : Outcome Place) → WordsOf (andThen o (λ (part : Place). andThen (commandOf (partOf frame part)) (effectOf d (partOf frame part) e s)))
       received (accepted part) = read part (commandOf (partOf frame part))
       received (refused k) = tt
 
-  frames-words : (frames : List (List ℕ)) → AllBytes frames → AllWords (framesNames d e s frames)
+  frames-words : (frames : List (List ℕ)) → AllOctets frames → AllWords (framesNames d e s frames)
   frames-words [] octets = tt
   frames-words (frame ∷ frames) octets = both-words (frameNames d e s frame) _ (frame-words frame (octets .0)) (frames-words frames (octets .1))
 

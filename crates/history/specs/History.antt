@@ -6,16 +6,16 @@ use mathlib.Core.Option.{Option, none, some}
 use mathlib.Core.List.{List, [], _∷_, _++_}
 use lib.ListN.{length, drop, replicate}
 use Rattle.octets.specs.Outcome.{Outcome, accepted, refused, onAccepted, andThen}
-use Rattle.octets.specs.Number.{at, Bytes, bigBytes}
+use Rattle.octets.specs.Number.{at, Octets, bigBytes}
 use Rattle.octets.specs.Place.{partOf}
-use Rattle.octets.specs.declared.Place.{Place as Part}
+use Rattle.octets.specs.declared.Place.{Place}
 use Rattle.packet.specs.Receipt.{plainOf}
 use Rattle.commands.specs.Decode.{commandOf}
 use Rattle.commands.specs.declared.Commands.{Commands}
-use Rattle.facts.specs.Eeprom.{serial, timestamp, timestamp2x4}
-use Rattle.processor.specs.Memory.{Memory, memory, Write, bytes}
+use Rattle.facts.specs.Eeprom.{atSerial, atTimestamp, atTimestamp2x4}
+use Rattle.processor.specs.Memory.{Memory, memory, Store, toEeprom}
 use Rattle.device.specs.Effect.{Effect, effectOf}
-use Rattle.processor.specs.Named.{byteOf, wordOf}
+use Rattle.processor.specs.Puts.{putsByte, putsWord}
 use Rattle.processor.specs.Calls.{writeU8, writeU16, writeU32, setSerial, setTimestamp}
 use Rattle.processor.specs.Create.{bareOf, newMemory, newOf}
 use Rattle.device.specs.Execute.{receivedInto, executedInto, executedRecord}
@@ -25,19 +25,19 @@ use Rattle.saves.specs.Stream.{streamOf}
 use Rattle.saves.specs.Replay.{replayOf}
 use Rattle.saves.specs.Writes.{writesFor}
 
--- ---- places
-pub data Place : Type 0 where
-  byte : ℕ → Place
-  setting : ℕ → Place
+-- ---- the places in the two memories
+pub data Location : Type 0 where
+  inEeprom : ℕ → Location
+  inSettings : ℕ → Location
 
-abbrev pub content : Memory → Place → ℕ
-content m (byte i) = at (m .eeprom) i
-content m (setting i) = at (m .settings) i
+abbrev pub content : Memory → Location → ℕ
+content m (inEeprom i) = at (m .eeprom) i
+content m (inSettings i) = at (m .settings) i
 
 -- what a write puts at a place that it names
-abbrev pub puts : Write → Place → Option ℕ
-puts w (byte i) = byteOf w i
-puts w (setting i) = wordOf w i
+abbrev pub puts : Store → Location → Option ℕ
+puts w (inEeprom i) = putsByte w i
+puts w (inSettings i) = putsWord w i
 
 -- ---- calls
 -- One for each public function that is lent a processor's memories, with what else it is given: what is read as bytes is
@@ -45,15 +45,15 @@ puts w (setting i) = wordOf w i
 pub data Call : Type 0 where
   bare : Device → Call
   new : Device → List ℕ → Call
-  receive : (frame : List ℕ) → Bytes frame → List ℕ → Call
-  execute : Commands → (payload : List ℕ) → Bytes payload → List ℕ → Call
-  execute-into : Commands → (payload : List ℕ) → Bytes payload → List ℕ → Call
+  receive : (frame : List ℕ) → Octets frame → List ℕ → Call
+  execute : Commands → (payload : List ℕ) → Octets payload → List ℕ → Call
+  execute-into : Commands → (payload : List ℕ) → Octets payload → List ℕ → Call
   write-u8 : ℕ → ℕ → Call
   write-u16 : ℕ → ℕ → Call
   write-u32 : ℕ → ℕ → Call
   set-serial : ℕ → Call
   set-timestamp : ℕ → Call
-  replay : (l : List ℕ) → Bytes l → Call
+  replay : (l : List ℕ) → Octets l → Call
   save : List ℕ → Call
 
 -- that nothing was refused, and the memories: all of an answer that the theorem asks for
@@ -85,15 +85,15 @@ abbrev pub step : Device → Call → Memory → Memory
 step d c m = leaves d c m .1
 
 -- ---- what a call names, by the codec's definitions and not by what the device stores; e and s are the sizes
-abbrev pub writesOf : Outcome Effect → List Write
-writesOf (accepted x) = x .writes
-writesOf (refused k) = []
+abbrev pub writesIfAccepted : Outcome Effect → List Store
+writesIfAccepted (accepted x) = x .writes
+writesIfAccepted (refused k) = []
 
-abbrev pub frameNames : Device → ℕ → ℕ → List ℕ → List Write
+abbrev pub frameNames : Device → ℕ → ℕ → List ℕ → List Store
 frameNames d e s frame =
-    writesOf (andThen (plainOf frame) (λ (part : Part). andThen (commandOf (partOf frame part)) (effectOf d (partOf frame part) e s)))
+    writesIfAccepted (andThen (plainOf frame) (λ (part : Place). andThen (commandOf (partOf frame part)) (effectOf d (partOf frame part) e s)))
 
-abbrev pub framesNames : Device → ℕ → ℕ → List (List ℕ) → List Write
+abbrev pub framesNames : Device → ℕ → ℕ → List (List ℕ) → List Store
 framesNames d e s [] = []
 framesNames d e s (frame ∷ frames) = frameNames d e s frame ++ framesNames d e s frames
 
@@ -105,28 +105,28 @@ framesIn l = streamOf (drop 11 l) .frames
 abbrev pub blank : ℕ → ℕ → Memory
 blank e s = memory (replicate e 0xFF) (replicate s 0)
 
-abbrev pub named : Device → ℕ → ℕ → Call → List Write
+abbrev pub named : Device → ℕ → ℕ → Call → List Store
 named d e s (bare made) = writesFor (blank e s)
 named d e s (new made meters) = writesFor (newMemory (made .«dsp_version») meters (blank e s))
 named d e s (receive frame octets out) = frameNames d e s frame
-named d e s (execute c p octets out) = writesOf (effectOf d p e s c)
-named d e s (execute-into c p octets out) = writesOf (effectOf d p e s c)
-named d e s (write-u8 a value) = bytes a (value ∷ []) ∷ []
-named d e s (write-u16 a value) = bytes a (bigBytes 2 value) ∷ []
-named d e s (write-u32 a value) = bytes a (bigBytes 4 value) ∷ []
-named d e s (set-serial value) = bytes serial (bigBytes 4 (value - 900000)) ∷ []
-named d e s (set-timestamp value) = bytes timestamp (bigBytes 4 value) ∷ bytes timestamp2x4 (bigBytes 2 (value % 2 ^ 16)) ∷ []
+named d e s (execute c p octets out) = writesIfAccepted (effectOf d p e s c)
+named d e s (execute-into c p octets out) = writesIfAccepted (effectOf d p e s c)
+named d e s (write-u8 a value) = toEeprom a (value ∷ []) ∷ []
+named d e s (write-u16 a value) = toEeprom a (bigBytes 2 value) ∷ []
+named d e s (write-u32 a value) = toEeprom a (bigBytes 4 value) ∷ []
+named d e s (set-serial value) = toEeprom atSerial (bigBytes 4 (value - 900000)) ∷ []
+named d e s (set-timestamp value) = toEeprom atTimestamp (bigBytes 4 value) ∷ toEeprom atTimestamp2x4 (bigBytes 2 (value % 2 ^ 16)) ∷ []
 -- "in demand 3 each of its frames counts as one accepted call in turn"
 named d e s (replay l octets) = framesNames d e s (framesIn l)
 named d e s (save out) = []
 
 -- an accepted call's; a refused one names nothing
-abbrev pub ifAccepted : Outcome Unit → List Write → List Write
+abbrev pub ifAccepted : Outcome Unit → List Store → List Store
 ifAccepted (accepted u) ws = ws
 ifAccepted (refused k) ws = []
 
-abbrev pub taken : Device → Call → Memory → List Write
-taken d c m = ifAccepted (answer d c m) (named d (length (m .eeprom)) (length (m .settings)) c)
+abbrev pub namedIfAccepted : Device → Call → Memory → List Store
+namedIfAccepted d c m = ifAccepted (answer d c m) (named d (length (m .eeprom)) (length (m .settings)) c)
 
 -- ---- histories
 abbrev pub history : Device → List Call → Memory → Memory
@@ -139,22 +139,22 @@ later none before = before
 later (some n) before = some n
 
 -- what the last of some writes naming a place puts there
-abbrev pub lastWrite : List Write → Place → Option ℕ
-lastWrite [] place = none
-lastWrite (w ∷ ws) place = later (lastWrite ws place) (puts w place)
+abbrev pub lastStored : List Store → Location → Option ℕ
+lastStored [] place = none
+lastStored (w ∷ ws) place = later (lastStored ws place) (puts w place)
 
 -- what the last accepted call naming a place put there
-abbrev pub last : Device → List Call → Memory → Place → Option ℕ
+abbrev pub last : Device → List Call → Memory → Location → Option ℕ
 last d [] m place = none
-last d (c ∷ cs) m place = later (last d cs (step d c m) place) (lastWrite (taken d c m) place)
+last d (c ∷ cs) m place = later (last d cs (step d c m) place) (lastStored (namedIfAccepted d c m) place)
 
 -- ---- a save's frames as calls
-abbrev pub AllBytes : List (List ℕ) → Type 0
-AllBytes [] = Unit
-AllBytes (frame ∷ frames) = Bytes frame × AllBytes frames
+abbrev pub AllOctets : List (List ℕ) → Type 0
+AllOctets [] = Unit
+AllOctets (frame ∷ frames) = Octets frame × AllOctets frames
 
 -- received one after the other, each with this output
-abbrev pub inTurn : (frames : List (List ℕ)) → AllBytes frames → List ℕ → List Call
+abbrev pub inTurn : (frames : List (List ℕ)) → AllOctets frames → List ℕ → List Call
 inTurn [] octets out = []
 inTurn (frame ∷ frames) octets out = receive frame (octets .0) out ∷ inTurn frames (octets .1) out
 

@@ -7,7 +7,7 @@ use Rattle.octets.specs.Refusals.{noRoom, wrongSizes}
 use Rattle.octets.specs.Outcome.{Outcome, accepted, refused}
 use Rattle.octets.specs.Choice.{pick, ifLt, ifEq}
 use Rattle.octets.specs.Over.{over}
-use Rattle.processor.specs.Memory.{Memory, wronglySized}
+use Rattle.processor.specs.Memory.{Memory, oversized}
 use Rattle.saves.specs.Save.{saveOf, room, savedInto}
 use Rattle.saves.specs.Replay.{replayOf}
 
@@ -24,15 +24,15 @@ roomFor m = room (length (m .eeprom)) (length (m .settings))
 
 -- the one's save is written to this output, and what was written there is accepted by the other, which is then as the one
 pub record Restored (one other : Memory) (out : List ℕ) : Type 0 where
-  pub written : savedInto one out .0 ≡ accepted (roomFor one)
-  pub replayed : replayOf other (take (roomFor one) (savedInto one out .1)) ≡ (accepted tt, one)
+  pub isWritten : savedInto one out .0 ≡ accepted (roomFor one)
+  pub isReplayed : replayOf other (take (roomFor one) (savedInto one out .1)) ≡ (accepted tt, one)
 
 -- What `transfer` answers and leaves. A refusal leaves all as it was: 14 where the sizes differ, then what saving refuses.
 abbrev pub transferOf : Memory → Memory → List ℕ → Outcome Unit × Memory × List ℕ
 transferOf one other out =
     ifEq (length (one .eeprom)) (length (other .eeprom))
     (ifEq (length (one .settings)) (length (other .settings))
-    (pick (wronglySized one) (refused wrongSizes, other, out)
+    (pick (oversized one) (refused wrongSizes, other, out)
     (ifLt (length out) (roomFor one) (refused noRoom, other, out) (accepted tt, one, over (saveOf one) out)))
     (refused wrongSizes, other, out))
     (refused wrongSizes, other, out)

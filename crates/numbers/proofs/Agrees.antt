@@ -17,7 +17,7 @@ use lib.Ieee.Nearest.{div-same}
 use lib.Ieee.Exact.{HasValue, odd-sign}
 use lib.Ieee.Scale.{round-same}
 use Rattle.octets.proofs.Choosing.{below, above, same, other}
-use Rattle.numbers.specs.Pattern.{negative, exponent, digits, magnitude, roundTo}
+use Rattle.numbers.specs.Pattern.{negative, exponent, fraction, magnitude, roundTo}
 use Rattle.numbers.specs.FixedPoint.{cutSum, held, rangeEnd, encoded, codeWord, codeOf}
 use Rattle.numbers.specs.Ieee.{encodedBy, codeBy}
 use Rattle.numbers.proofs.Round.{round-to, round-below}
@@ -184,8 +184,8 @@ fields-agree s x t X H = go (ℕ-discrete x 255)
 pub pattern-agrees : (b : ℕ) → codeOf b ≡ codeBy (ofBits binary32 b)
 unfolding codeOf ofBits
 pattern-agrees b =
-    ap codeWord (sym (fields-agree (negative b) (exponent b) (digits b) (mod-lt (b / 2 ^ 23) (lit< tt)) (mod-lt b (lit< tt))))
-    ∙ ap (λ (x : ℕ). codeWord (encodedBy (ofFields binary32 (negative b) x (digits b)))) (sym (field b 8 23))
+    ap codeWord (sym (fields-agree (negative b) (exponent b) (fraction b) (mod-lt (b / 2 ^ 23) (lit< tt)) (mod-lt b (lit< tt))))
+    ∙ ap (λ (x : ℕ). codeWord (encodedBy (ofFields binary32 (negative b) x (fraction b)))) (sym (field b 8 23))
 
 -- and the code of a float, NaN included, what it makes of the float
 pub from-agrees : (x : Float) → T (fits binary32 x) → codeOf (toBits binary32 x) ≡ codeBy x

@@ -16,7 +16,7 @@ use lib.Ieee.Bits.{ofBits-toBits}
 use lib.Ieee.Exact.{HasValue}
 use Rattle.octets.specs.Choice.{ifLt}
 use Rattle.octets.proofs.Choosing.{lt-or-le, below, above, either-lt}
-use Rattle.numbers.specs.Pattern.{negative, exponent, digits, magnitude, roundTo}
+use Rattle.numbers.specs.Pattern.{negative, exponent, fraction, magnitude, roundTo}
 use Rattle.numbers.specs.FixedPoint.{lowBits, signed, flip27, held, cutSum, encoded, cleared, codeWord, codeOf, aroundZero, bitsOfCode}
 use Rattle.numbers.specs.Format.{meaning, asFloat, cutDown, Unheld}
 use Rattle.numbers.specs.Ieee.{floatBy}
@@ -147,12 +147,12 @@ module _ (bits : ℕ) where
   p = bits % 2 ^ 31
 
   abbrev n : ℕ
-  n = magnitude (exponent bits) (digits bits)
+  n = magnitude (exponent bits) (fraction bits)
 
   x-is : exponent bits ≡ p / 2 ^ 23
   x-is = omega arith
 
-  t-is : digits bits ≡ p % 2 ^ 23
+  t-is : fraction bits ≡ p % 2 ^ 23
   t-is = omega arith
 
   word-is : codeOf bits ≡ cleared (flip27 (Low s p))

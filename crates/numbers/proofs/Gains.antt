@@ -1,4 +1,4 @@
--- What a gain's byte comes to on each branch of `byte_of`, and that it is what the Rust computes: (x.abs() * 2.) as u8.
+-- What a gain's byte comes to on each branch of `gain_byte`, and that it is what the Rust computes: (x.abs() * 2.) as u8.
 use mathlib.Core.Path.{_≡_, refl, sym, ap, _∙_, subst}
 use mathlib.Core.Logic.{_⊎_, inl, inr}
 use Prim.Native.Nat.{ℕ, zero, suc, _+_, _-_, _*_, _/_, _%_, _^_, _≤_, _<_, min}
@@ -20,8 +20,8 @@ use lib.Ieee.Positive.{above-of-le, le→cross}
 use Rattle.octets.specs.Choice.{pick, ifEq}
 use Rattle.octets.proofs.Choosing.{lt-or-le, same, other, either-eq}
 use borrow.Author.Tests.{eqb-true}
-use Rattle.numbers.specs.Pattern.{negative, exponent, digits, magnitude, patternOf}
-use Rattle.numbers.specs.Gain.{bitsOfByte, byteOf}
+use Rattle.numbers.specs.Pattern.{negative, exponent, fraction, magnitude, patternOf}
+use Rattle.numbers.specs.Gain.{bitsOfByte, gainByte}
 use Rattle.numbers.specs.Ieee.{absolute, byteBy}
 use Rattle.numbers.proofs.Round.{round-to}
 use Rattle.numbers.proofs.Magnitude.{mag-is, mag-ge, size-of, in-order}
@@ -55,22 +55,22 @@ module _ (bits : ℕ) where
   x-is : exponent bits ≡ p / 2 ^ 23
   x-is = omega arith
 
-  t-is : digits bits ≡ p % 2 ^ 23
+  t-is : fraction bits ≡ p % 2 ^ 23
   t-is = omega arith
 
-  finite : p < 0x7f80_0000 → min twice 255 ≡ byteOf bits
-  unfolding byteOf
+  finite : p < 0x7f80_0000 → min twice 255 ≡ gainByte bits
+  unfolding gainByte
   finite h = other _ _ _ _ _ (λ e. omega arith) (rw (x-is, t-is))
 
-  pub at-nan : 0x7f80_0000 < p → 0 ≡ byteOf bits
-  unfolding byteOf
+  pub at-nan : 0x7f80_0000 < p → 0 ≡ gainByte bits
+  unfolding gainByte
   at-nan h = same _ _ _ _ _ (omega arith) (other _ _ _ _ _ (λ e. omega arith) refl)
 
-  pub at-low : p < 0x3f00_0000 → 0 ≡ byteOf bits
+  pub at-low : p < 0x3f00_0000 → 0 ≡ gainByte bits
   at-low h = ap (λ (q : ℕ). min q 255) (sym (div-eq-of-lt (under-half p h))) ∙ finite (omega arith)
 
-  pub at-high : p ≤ 0x7f80_0000 → 0x4300_0000 ≤ p → 255 ≡ byteOf bits
-  unfolding byteOf
+  pub at-high : p ≤ 0x7f80_0000 → 0x4300_0000 ≤ p → 255 ≡ gainByte bits
+  unfolding gainByte
   at-high h k = elim (eq-or-lt-of-le h) [
     | inl e ↦ same _ _ _ _ _ (omega arith) (same _ _ _ _ _ (omega arith) refl)
     | inr l ↦ sym (capped twice (shr-mono 148 (from-128 p k))) ∙ finite l
@@ -91,7 +91,7 @@ module _ (bits : ℕ) where
     pub mid-fits : (2 ^ 23 + p % 2 ^ 23) / 2 ^ (149 - p / 2 ^ 23) < 2 ^ 8
     mid-fits = rw shifted in-byte
 
-    pub at-mid : (2 ^ 23 + p % 2 ^ 23) / 2 ^ (149 - p / 2 ^ 23) ≡ byteOf bits
+    pub at-mid : (2 ^ 23 + p % 2 ^ 23) / 2 ^ (149 - p / 2 ^ 23) ≡ gainByte bits
     at-mid = rw shifted (uncapped twice in-byte ∙ finite (omega arith))
       where
         uncapped : (q : ℕ) → q < 2 ^ 8 → q ≡ min q 255
@@ -154,12 +154,12 @@ nan-agrees : byteBy nan ≡ 0
 unfolding mul toUnsigned
 nan-agrees = refl
 
-pub byte-agrees : (bits : ℕ) → byteOf bits ≡ byteBy (ofBits binary32 bits)
-unfolding byteOf ofBits
+pub byte-agrees : (bits : ℕ) → gainByte bits ≡ byteBy (ofBits binary32 bits)
+unfolding gainByte ofBits
 byte-agrees bits =
     let s = negative bits in
     let x = exponent bits in
-    let t = digits bits in
+    let t = fraction bits in
     rw (field bits 8 23) (sym (go s x t (mod-lt (bits / 2 ^ 23) (lit< tt)) (mod-lt bits (lit< tt))))
   where
     go : (s : Bool) (x t : ℕ) → x < 256 → t < 2 ^ 23 → byteBy (ofFields binary32 s x t) ≡ ifEq x 255 (ifEq t 0 255 0) (min (magnitude x t / 2 ^ 148) 255)
@@ -172,7 +172,7 @@ byte-agrees bits =
         (λ n. fields-agree s x t (omega arith) H)
 
 -- of a float, NaN included
-pub to-byte-agrees : (x : Float) → T (fits binary32 x) → byteOf (toBits binary32 x) ≡ byteBy x
+pub to-byte-agrees : (x : Float) → T (fits binary32 x) → gainByte (toBits binary32 x) ≡ byteBy x
 to-byte-agrees x h = byte-agrees (toBits binary32 x) ∙ ap byteBy (ofBits-toBits binary32 x h)
 
 -- ---- a byte's gain gives the byte back: one test, computed at each of the 256
@@ -188,9 +188,9 @@ of-every f (suc n) k e h = elim (eq-or-lt-of-le (le-of-suc-le-suc h)) [ inl same
     first true b e = (refl, e)
     first false b e = absurd (true≢false (sym e))
 
-all-back : every (λ k. eqb (byteOf (bitsOfByte k)) k) 256 ≡ true
-unfolding byteOf magnitude patternOf ifEq size
+all-back : every (λ k. eqb (gainByte (bitsOfByte k)) k) 256 ≡ true
+unfolding gainByte magnitude patternOf ifEq size
 all-back = refl
 
-pub gain-back : (k : ℕ) → k < 256 → byteOf (toBits binary32 (ofBits binary32 (bitsOfByte k))) ≡ k
-gain-back k h = rw (gain-agrees k h, gain-bits k h) (eqb-true _ _ (of-every (λ k. eqb (byteOf (bitsOfByte k)) k) 256 k all-back h))
+pub gain-back : (k : ℕ) → k < 256 → gainByte (toBits binary32 (ofBits binary32 (bitsOfByte k))) ≡ k
+gain-back k h = rw (gain-agrees k h, gain-bits k h) (eqb-true _ _ (of-every (λ k. eqb (gainByte (bitsOfByte k)) k) 256 k all-back h))

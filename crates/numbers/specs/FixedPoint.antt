@@ -3,7 +3,7 @@ use Prim.Native.Nat.{ℕ, suc, _+_, _-_, _*_, _/_, _%_, _^_, min}
 use mathlib.Core.Bool.{Bool, true, false}
 use lib.IntN.{ℤ, pos, negsuc, negℤ}
 use Rattle.octets.specs.Choice.{ifLt, ifEq}
-use Rattle.numbers.specs.Pattern.{negative, exponent, digits, magnitude, roundTo, patternOf}
+use Rattle.numbers.specs.Pattern.{negative, exponent, fraction, magnitude, roundTo, patternOf}
 
 -- two's complement: the low k bits of a whole number, and the number that k bits stand for
 abbrev pub lowBits : ℕ → ℤ → ℕ
@@ -47,7 +47,7 @@ abbrev pub codeWord : ℤ → ℕ
 codeWord z = cleared (flip27 (lowBits 32 z))
 
 unfoldable pub codeOf : ℕ → ℕ
-codeOf bits = codeWord (encoded (negative bits) (exponent bits) (digits bits))
+codeOf bits = codeWord (encoded (negative bits) (exponent bits) (fraction bits))
 
 -- ---- to_f32
 

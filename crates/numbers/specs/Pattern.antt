@@ -11,8 +11,8 @@ negative bits = leb (2 ^ 31) bits
 abbrev pub exponent : ℕ → ℕ
 exponent bits = bits / 2 ^ 23 % 2 ^ 8
 
-abbrev pub digits : ℕ → ℕ
-digits bits = bits % 2 ^ 23
+abbrev pub fraction : ℕ → ℕ
+fraction bits = bits % 2 ^ 23
 
 -- the size of a finite pattern with the exponent x and the digits t, in units of 2 ^ -149
 unfoldable pub magnitude : ℕ → ℕ → ℕ

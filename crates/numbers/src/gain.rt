@@ -1,7 +1,7 @@
 // A gain as a byte of half decibels down, and as a float. (Gain of commands.rs)
 ghost use mathlib.Core.Path.{_≡_};
 ghost use lib.Ieee.{binary32, toBits, ofBits};
-ghost use Rattle.numbers.specs.Gain.{byteOf, bitsOfByte};
+ghost use Rattle.numbers.specs.Gain.{gainByte, bitsOfByte};
 use crate::float::to_bits;
 
 pub struct Gain(pub f32);
@@ -16,15 +16,15 @@ impl Gain {
 
     // Twice the size, cut toward zero, 255 above, and 0 for a NaN.
     pub fn to_u8(self) -> u8
-        ensures { λ r. ⌜ r ≡ byteOf (toBits binary32 (self .0)) ⌝ }
+        ensures { λ r. ⌜ r ≡ gainByte (toBits binary32 (self .0)) ⌝ }
     {
-        byte_of(to_bits(self.0))
+        gain_byte(to_bits(self.0))
     }
 }
 
 // The byte of a pattern. 0x3f00_0000 is one half, and 0x4300_0000 is 128.
-fn byte_of(bits: u32) -> u8
-    ensures { λ r. ⌜ r ≡ byteOf bits ⌝ }
+fn gain_byte(bits: u32) -> u8
+    ensures { λ r. ⌜ r ≡ gainByte bits ⌝ }
 {
     let p = bits % 0x8000_0000;
     if 0x7f80_0000 < p {

@@ -14,7 +14,7 @@ use Rattle.octets.proofs.Agree.{Fixes, agree, both}
 use Rattle.octets.proofs.put.Reads as put
 use Rattle.octets.proofs.put_word.Reads as put-word
 use Rattle.octets.proofs.put_at.Reads as put-at
-use Rattle.octets.proofs.outside.Reads as outside
+use Rattle.octets.proofs.is_outside.Reads as is-outside
 use Rattle.octets.proofs.floats_outside.Reads as floats-outside
 use Rattle.octets.proofs.rest_of.Reads as rest-of
 use Rattle.octets.proofs.part.Reads as part
@@ -48,8 +48,8 @@ put-fixed κs args a b x y p q = both written written-once (agree p q)
 pub put-at-fixed : Fixes (Written × List ℕ) put-at.Post (λ κs answer left. (answer, now (left .1 .1 .0)))
 put-at-fixed κs args a b x y p q = both written written-once (agree p q)
 
-pub outside-fixed : Fixes Bool outside.Post (λ κs answer left. answer)
-outside-fixed κs args a b x y p q = agree p q
+pub is-outside-fixed : Fixes Bool is-outside.Post (λ κs answer left. answer)
+is-outside-fixed κs args a b x y p q = agree p q
 
 pub floats-outside-fixed : Fixes Bool floats-outside.Post (λ κs answer left. answer)
 floats-outside-fixed κs args a b x y p q = agree p q

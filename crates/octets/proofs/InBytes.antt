@@ -10,7 +10,7 @@ use lib.Arith.{mod-mul, digits-lt, digits-div}
 use lib.Dec.{lit<}
 use lib.ListN.{length, take, drop, length-append, length-drop, List·getD-eq-default}
 use lib.Seq.{getD-at, getD-append-add, drop-cons, take-suc, getD-drop}
-use Rattle.octets.specs.Number.{at, Bytes, bigAt, littleAt, bigBytes, littleBytes}
+use Rattle.octets.specs.Number.{at, Octets, bigAt, littleAt, bigBytes, littleBytes}
 
 some : (k : ℕ) → 0 < 256 ^ k
 some zero = lit< tt
@@ -121,7 +121,7 @@ little-low (suc k) q r =
     let e : q * 256 ^ suc k + r ≡ q * 256 * 256 ^ k + r = rw (pow-succ', ← mul-assoc) in
     rw (e, mul-add-div-right (some k) (q * 256) r, mul-add-mod-self-right q 256 (r / 256 ^ k), little-low k (q * 256) r)
 
-module _ (l : List ℕ) (bytes : Bytes l) where
+module _ (l : List ℕ) (bytes : Octets l) where
   pub big-lt : (k i : ℕ) → bigAt k l i < 256 ^ k
   unfolding bigAt
   big-lt zero i = lit< tt

@@ -9,7 +9,7 @@ use lib.ListN.{length, take, drop, length-take, length-drop, drop-of-length-le}
 use lib.Seq.{take-all, take-at, take-nil, take-take, take-add, drop-drop, drop-at, drop-append-add, length-take-le, getD-take, getD-drop}
 use borrow.Author.Tests.{lt-ltb, le-ltb, ltb-false, ltb-true}
 use Rattle.octets.specs.declared.Place.{Place}
-use Rattle.octets.specs.Place.{placeAt, partOf, outsideOf}
+use Rattle.octets.specs.Place.{placeAt, partOf, isOutside}
 use Rattle.octets.specs.Number.{at}
 use Rattle.octets.proofs.Choosing.{lt-or-le}
 
@@ -76,24 +76,24 @@ unfolding partOf
 part-between a b l n m h g = rw (drop-at a (b ++ l) n (sym h)) (take-at b l m (sym g))
 
 module _ (p : Place) (have : ℕ) where
-  pub is-inside : p .start + p .len ≤ have → false ≡ outsideOf p have
-  unfolding outsideOf
+  pub is-inside : p .start + p .len ≤ have → false ≡ isOutside p have
+  unfolding isOutside
   is-inside h = sym (le-ltb _ _ h)
 
-  pub is-outside : have < p .start + p .len → true ≡ outsideOf p have
-  unfolding outsideOf
+  pub is-outside : have < p .start + p .len → true ≡ isOutside p have
+  unfolding isOutside
   is-outside h = sym (lt-ltb _ _ h)
 
-  pub was-inside : outsideOf p have ≡ false → p .start + p .len ≤ have
-  unfolding outsideOf
+  pub was-inside : isOutside p have ≡ false → p .start + p .len ≤ have
+  unfolding isOutside
   was-inside e = ltb-false _ _ e
 
-  pub was-outside : outsideOf p have ≡ true → have < p .start + p .len
-  unfolding outsideOf
+  pub was-outside : isOutside p have ≡ true → have < p .start + p .len
+  unfolding isOutside
   was-outside e = ltb-true _ _ e
 
--- `if outside(..)`
-module _ (p : Place) (have : ℕ) {r : Bool} (e : r ≡ outsideOf p have) where
+-- `if is_outside(..)`
+module _ (p : Place) (have : ℕ) {r : Bool} (e : r ≡ isOutside p have) where
   pub found-outside : r ≡ true → have < p .start + p .len
   found-outside h = was-outside p have (sym e ∙ h)
 

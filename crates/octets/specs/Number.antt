@@ -8,8 +8,8 @@ abbrev pub at : List ℕ → ℕ → ℕ
 at bytes place = getD bytes place 0
 
 -- a list of bytes
-abbrev pub Bytes : List ℕ → Type 0
-Bytes l = (i : ℕ) → at l i < 256
+abbrev pub Octets : List ℕ → Type 0
+Octets l = (i : ℕ) → at l i < 256
 
 -- the number in k bytes at a place, the most significant first
 unfoldable pub bigAt : ℕ → List ℕ → ℕ → ℕ

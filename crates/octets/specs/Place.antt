@@ -18,5 +18,5 @@ unfoldable pub partOf : List ℕ → Place → List ℕ
 partOf bytes place = take (place .len) (drop (place .start) bytes)
 
 -- whether it runs past so many bytes
-unfoldable pub outsideOf : Place → ℕ → Bool
-outsideOf place have = ltb have (place .start + place .len)
+unfoldable pub isOutside : Place → ℕ → Bool
+isOutside place have = ltb have (place .start + place .len)

@@ -5,7 +5,7 @@ ghost use mathlib.Core.List.{[], _∷_};
 ghost use lib.ListN.{length};
 ghost use Rattle.octets.specs.Outcome.{written};
 ghost use Rattle.octets.specs.Over.{into, intoAt};
-ghost use Rattle.octets.specs.Place.{floatsAt, partOf, outsideOf};
+ghost use Rattle.octets.specs.Place.{floatsAt, partOf, isOutside};
 ghost use Rattle.octets.specs.Reading.{rest};
 
 pub mod number;
@@ -67,8 +67,8 @@ pub struct Place {
 }
 
 // Whether a place runs past so many bytes.
-pub fn outside(place: Place, have: usize) -> bool
-    ensures { λ r. ⌜ r ≡ outsideOf place have ⌝ }
+pub fn is_outside(place: Place, have: usize) -> bool
+    ensures { λ r. ⌜ r ≡ isOutside place have ⌝ }
 {
     if have < place.start {
         return true;
@@ -82,7 +82,7 @@ pub fn outside(place: Place, have: usize) -> bool
 // Whether count floats from start run past so many bytes: divided, since four times a count can
 // overflow.
 pub fn floats_outside(start: usize, count: usize, have: usize) -> bool
-    ensures { λ r. ⌜ r ≡ outsideOf (floatsAt start count) have ⌝ }
+    ensures { λ r. ⌜ r ≡ isOutside (floatsAt start count) have ⌝ }
 {
     if have < start {
         return true;

@@ -11,9 +11,9 @@ use Rattle.octets.proofs.Determined.{done-once}
 use Rattle.processor.specs.Memory.{Memory, memory}
 use Rattle.processor.specs.Create.{made}
 use Rattle.processor.specs.declared.create.Made.{Made}
-use Rattle.processor.specs.declared.create.Made.the-variants.{Device as Is, Refused as NotMade}
+use Rattle.processor.specs.declared.create.Made.the-variants.{Is, Refused as NotMade}
 use Rattle.processor.proofs.too_large.Reads as too-large
-use Rattle.processor.proofs.write.store.Reads as store
+use Rattle.processor.proofs.change.store.Reads as store
 use Rattle.processor.proofs.create.bare.Reads as bare
 use Rattle.processor.proofs.create.new.Reads as new
 use Rattle.processor.proofs.eeprom.write_eeprom_u8.Reads as write-u8

@@ -2,6 +2,6 @@ pub mod Written
 pub mod Stores
 pub mod Fills
 pub mod Meters
-pub mod Named
+pub mod Puts
 pub mod Determined
 pub mod Refusals

@@ -7,7 +7,7 @@ use lib.ListN.{length}
 use Rattle.octets.specs.Outcome.{Outcome, accepted, refused}
 use Rattle.octets.specs.Choice.{pick}
 use Rattle.octets.proofs.Choosing.{either-lt, either-eq, accepted-refused}
-use Rattle.processor.specs.Memory.{Memory, wronglySized}
+use Rattle.processor.specs.Memory.{Memory, oversized}
 use Rattle.processor.specs.Calls.{writeBytes, setTimestamp}
 use Rattle.processor.specs.Create.{bareOf, bareMemory, newOf, newMemory, anyBeyond}
 use Rattle.processor.specs.declared.Device.{Device}
@@ -26,7 +26,7 @@ stamped-kept value e =
     (λ h. either-lt (KeptAlone e) _ _ _ _ (λ j k g. refl) (λ j. either-lt (KeptAlone e) _ _ _ _ (λ i k g. refl) (λ i k g. absurd (accepted-refused g))))
 
 pub bare-kept : (d : Device) (m : Memory) → KeptAlone m (bareOf d m)
-bare-kept d m = go (wronglySized m)
+bare-kept d m = go (oversized m)
   where
     go : (b : Bool) → KeptAlone m (pick b (refused 14, m) (accepted d, bareMemory m))
     go true = λ k g. refl

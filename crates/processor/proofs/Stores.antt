@@ -6,7 +6,7 @@ use mathlib.Core.List.{List, [], _∷_}
 use lib.ListN.{length}
 use Rattle.octets.proofs.Choosing.{lt-or-le}
 use Rattle.octets.proofs.Overlay.{length-over-at, put-outside, put-inside}
-use Rattle.processor.specs.Memory.{Memory, Write, bytes, word, putAt, put, store}
+use Rattle.processor.specs.Memory.{Memory, Store, toEeprom, toSettings, putAt, storeOne, store}
 
 module _ (a : ℕ) (w l : List ℕ) where
   pub length-put : length (putAt a w l) ≡ length l
@@ -16,7 +16,7 @@ module _ (a : ℕ) (w l : List ℕ) where
       go (inl h) = ap length (sym (put-outside l a w h))
       go (inr h) = ap length (sym (put-inside l a w h)) ∙ length-over-at l a w h
 
-pub length-store : (ws : List Write) (m : Memory) → length (store ws m .eeprom) ≡ length (m .eeprom)
+pub length-store : (ws : List Store) (m : Memory) → length (store ws m .eeprom) ≡ length (m .eeprom)
 length-store [] m = refl
-length-store (bytes a b ∷ ws) m = length-store ws (put (bytes a b) m) ∙ length-put a b (m .eeprom)
-length-store (word a w ∷ ws) m = length-store ws (put (word a w) m)
+length-store (toEeprom a b ∷ ws) m = length-store ws (storeOne (toEeprom a b) m) ∙ length-put a b (m .eeprom)
+length-store (toSettings a w ∷ ws) m = length-store ws (storeOne (toSettings a w) m)

@@ -8,7 +8,7 @@ use Rattle.octets.specs.Outcome.{Outcome, accepted, refused}
 use Rattle.octets.specs.Choice.{ifLt}
 use Rattle.octets.specs.Number.{bigBytes}
 use Rattle.octets.specs.Over.{overAt}
-use Rattle.facts.specs.Eeprom.{serial, timestamp, timestamp2x4}
+use Rattle.facts.specs.Eeprom.{atSerial, atTimestamp, atTimestamp2x4}
 
 abbrev pub writeBytes : ℕ → List ℕ → List ℕ → Outcome Unit × List ℕ
 writeBytes a bytes e =
@@ -26,12 +26,12 @@ writeU32 a value = writeBytes a (bigBytes 4 value)
 
 -- "set_serial (saturating)": the subtraction of whole numbers stops at 0
 abbrev pub setSerial : ℕ → List ℕ → Outcome Unit × List ℕ
-setSerial value = writeU32 serial (value - 900000)
+setSerial value = writeU32 atSerial (value - 900000)
 
 -- both places, the second for the low half
 abbrev pub setTimestamp : ℕ → List ℕ → Outcome Unit × List ℕ
 setTimestamp value e =
     ifLt 65536 (length e) (refused wrongSizes, e)
-    (ifLt (length e) (timestamp + 4) (refused outside, e)
-    (ifLt (length e) (timestamp2x4 + 2) (refused outside, e)
-    (accepted tt, overAt timestamp2x4 (bigBytes 2 (value % 2 ^ 16)) (overAt timestamp (bigBytes 4 value) e))))
+    (ifLt (length e) (atTimestamp + 4) (refused outside, e)
+    (ifLt (length e) (atTimestamp2x4 + 2) (refused outside, e)
+    (accepted tt, overAt atTimestamp2x4 (bigBytes 2 (value % 2 ^ 16)) (overAt atTimestamp (bigBytes 4 value) e))))

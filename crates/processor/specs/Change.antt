@@ -2,13 +2,13 @@
 use Prim.Native.Nat.{ℕ}
 use mathlib.Core.List.{List, [], _∷_}
 use Rattle.octets.specs.Place.{partOf}
-use Rattle.processor.specs.Memory.{Write, bytes, word}
-use Rattle.processor.specs.declared.write.Change.{Change}
-use Rattle.processor.specs.declared.write.Change.the-variants.{Nothing, Byte, Bytes, Word}
+use Rattle.processor.specs.Memory.{Store, toEeprom, toSettings}
+use Rattle.processor.specs.declared.change.Change.{Change}
+use Rattle.processor.specs.declared.change.Change.the-variants.{Nothing, EepromByte, EepromBytes, SettingsWord}
 
 -- p is the payload that is lent beside it
-abbrev pub writesIn : List ℕ → Change → List Write
+abbrev pub writesIn : List ℕ → Change → List Store
 writesIn p Nothing = []
-writesIn p (Byte a value) = bytes a (value ∷ []) ∷ []
-writesIn p (Bytes a place) = bytes a (partOf p place) ∷ []
-writesIn p (Word a value) = word a value ∷ []
+writesIn p (EepromByte a value) = toEeprom a (value ∷ []) ∷ []
+writesIn p (EepromBytes a place) = toEeprom a (partOf p place) ∷ []
+writesIn p (SettingsWord a value) = toSettings a value ∷ []

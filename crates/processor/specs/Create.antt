@@ -7,12 +7,12 @@ use Rattle.octets.specs.Refusals.{outside, wrongSizes}
 use Rattle.octets.specs.Outcome.{Outcome, accepted, refused}
 use Rattle.octets.specs.Choice.{pick, ifLt, ifEq}
 use Rattle.octets.specs.Number.{bigBytes}
-use Rattle.facts.specs.Eeprom.{firmwareVersion, timestamp, source, masterVolume, mute, preset, serial}
+use Rattle.facts.specs.Eeprom.{atFirmwareVersion, atTimestamp, atSource, atMasterVolume, atMute, atPreset, atSerial}
 use Rattle.facts.specs.declared.probe.DeviceKind.{DeviceKind}
-use Rattle.processor.specs.Memory.{Memory, memory, Write, bytes, putAt, store, wronglySized}
+use Rattle.processor.specs.Memory.{Memory, memory, Store, toEeprom, putAt, store, oversized}
 use Rattle.processor.specs.declared.Device.{Device}
 use Rattle.processor.specs.declared.create.Made.{Made}
-use Rattle.processor.specs.declared.create.Made.the-variants.{Device as Is, Refused}
+use Rattle.processor.specs.declared.create.Made.the-variants.{Is, Refused}
 
 abbrev pub made : Made → Outcome Device
 made (Is d) = accepted d
@@ -28,19 +28,19 @@ abbrev pub bareMemory : Memory → Memory
 bareMemory m = memory (replicate (length (m .eeprom)) 0xFF) (replicate (length (m .settings)) 0)
 
 abbrev pub bareOf : Device → Memory → Outcome Device × Memory
-bareOf d m = pick (wronglySized m) (refused wrongSizes, m) (accepted d, bareMemory m)
+bareOf d m = pick (oversized m) (refused wrongSizes, m) (accepted d, bareMemory m)
 
 -- "follows `MockDevice::new`": its writes, in its order
-abbrev pub newWrites : ℕ → List Write
+abbrev pub newWrites : ℕ → List Store
 newWrites dsp =
-    bytes firmwareVersion (dsp ∷ [])
-    ∷ bytes timestamp (bigBytes 4 42424242)
-    ∷ bytes source (bigBytes 2 0)
-    ∷ bytes masterVolume (7 ∷ [])
-    ∷ bytes mute (0 ∷ [])
-    ∷ bytes preset (bigBytes 2 0)
-    ∷ bytes serial (bigBytes 2 12345)
-    ∷ bytes 0xFFA3 (3 ∷ [])
+    toEeprom atFirmwareVersion (dsp ∷ [])
+    ∷ toEeprom atTimestamp (bigBytes 4 42424242)
+    ∷ toEeprom atSource (bigBytes 2 0)
+    ∷ toEeprom atMasterVolume (7 ∷ [])
+    ∷ toEeprom atMute (0 ∷ [])
+    ∷ toEeprom atPreset (bigBytes 2 0)
+    ∷ toEeprom atSerial (bigBytes 2 12345)
+    ∷ toEeprom 0xFFA3 (3 ∷ [])
     ∷ []
 
 -- "a meter at or beyond S gives 7"

@@ -1,5 +1,5 @@
 pub mod Memory
 pub mod Change
-pub mod Named
+pub mod Puts
 pub mod Create
 pub mod Calls

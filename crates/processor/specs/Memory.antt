@@ -17,23 +17,24 @@ memory eeprom settings = record { eeprom = eeprom; settings = settings }
 abbrev pub tooLarge : ℕ → ℕ → Bool
 tooLarge e s = ifLt 65536 e true (ifLt 65536 s true false)
 
-abbrev pub wronglySized : Memory → Bool
-wronglySized m = tooLarge (length (m .eeprom)) (length (m .settings))
+abbrev pub oversized : Memory → Bool
+oversized m = tooLarge (length (m .eeprom)) (length (m .settings))
 
--- what a call puts where: bytes from an address of the EEPROM on, or a word of the settings
-pub data Write : Type 0 where
-  bytes : ℕ → List ℕ → Write
-  word : ℕ → ℕ → Write
+-- A write to the memories, what a call puts where: bytes to the EEPROM from an address on, or a word to the settings. (`Write` is
+-- the command.)
+pub data Store : Type 0 where
+  toEeprom : ℕ → List ℕ → Store
+  toSettings : ℕ → ℕ → Store
 
 -- written over what stands there; where that is outside, nothing
 abbrev pub putAt : ℕ → List ℕ → List ℕ → List ℕ
 putAt a b memory = intoAt a b memory .1
 
-abbrev pub put : Write → Memory → Memory
-put (bytes a b) m = memory (putAt a b (m .eeprom)) (m .settings)
-put (word a w) m = memory (m .eeprom) (putAt a (w ∷ []) (m .settings))
+abbrev pub storeOne : Store → Memory → Memory
+storeOne (toEeprom a b) m = memory (putAt a b (m .eeprom)) (m .settings)
+storeOne (toSettings a w) m = memory (m .eeprom) (putAt a (w ∷ []) (m .settings))
 
 -- one after the other
-abbrev pub store : List Write → Memory → Memory
+abbrev pub store : List Store → Memory → Memory
 store [] m = m
-store (w ∷ ws) m = store ws (put w m)
+store (w ∷ ws) m = store ws (storeOne w m)

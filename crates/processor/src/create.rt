@@ -16,7 +16,7 @@ use octets::refusal;
 
 // A device, or the number of the refusal.
 pub enum Made {
-    Device(Device),
+    Is(Device),
     Refused(u8),
 }
 
@@ -38,7 +38,7 @@ pub fn bare(
     }
     erase(eeprom);
     clear(settings);
-    Made::Device(device_of(hw_id, dsp_version, kind, fir_max_taps))
+    Made::Is(device_of(hw_id, dsp_version, kind, fir_max_taps))
 }
 
 // Meters are addresses of settings.
@@ -66,7 +66,7 @@ pub fn new(
     clear(settings);
     write_defaults(dsp_version, eeprom);
     set_meters(meters, settings);
-    Made::Device(device_of(hw_id, dsp_version, kind, fir_max_taps))
+    Made::Is(device_of(hw_id, dsp_version, kind, fir_max_taps))
 }
 
 fn device_of(hw_id: u8, dsp_version: u8, kind: DeviceKind, fir_max_taps: u16) -> Device

@@ -4,9 +4,9 @@ ghost use mathlib.Core.Path.{_≡_};
 ghost use Rattle.processor.specs.Memory.{tooLarge, putAt};
 use facts::probe::DeviceKind;
 
+pub mod change;
 pub mod create;
 pub mod eeprom;
-pub mod write;
 
 // What a device is beside its memories.
 pub struct Device {

@@ -11,18 +11,18 @@ use Rattle.octets.proofs.Agree.{Fixes, agree, both}
 use Rattle.octets.proofs.Determined.{written-once, done-once}
 use Rattle.fields.specs.declared.value.ReadValue.{ReadValue}
 use Rattle.fields.proofs.Determined.{value-once}
-use Rattle.views.specs.declared.memory.Answer.{Answer as MemoryAnswer}
-use Rattle.views.specs.declared.floats.Answer.{Answer as FloatsAnswer}
+use Rattle.views.specs.declared.memory.MemoryAnswer.{MemoryAnswer}
+use Rattle.views.specs.declared.floats.FloatsAnswer.{FloatsAnswer}
 use Rattle.views.proofs.Determined.{byte-once, memory-once, floats-once}
-use Rattle.responses.specs.Decode.{parsed}
-use Rattle.responses.specs.Kind.{identified, sized}
-use Rattle.responses.specs.Status.{Status, input, volume, flag, status}
-use Rattle.responses.specs.declared.decode.Parsed.{Parsed}
-use Rattle.responses.specs.declared.decode.Parsed.the-variants.{Response, Refused}
+use Rattle.responses.specs.Decode.{readResponse}
+use Rattle.responses.specs.ByKind.{identified, readSize}
+use Rattle.responses.specs.Status.{Status, knownInput, knownVolume, knownFlag, status}
+use Rattle.responses.specs.declared.decode.ReadResponse.{ReadResponse}
+use Rattle.responses.specs.declared.decode.ReadResponse.the-variants.{Response, Refused}
 use Rattle.responses.specs.declared.kind.Identified.{Identified}
 use Rattle.responses.specs.declared.kind.Identified.the-variants.{Is as IdIs, Refused as NoId}
-use Rattle.responses.specs.declared.kind.Sized.{Sized}
-use Rattle.responses.specs.declared.kind.Sized.the-variants.{Is as SizeIs, Refused as NoSize}
+use Rattle.responses.specs.declared.kind.ReadSize.{ReadSize}
+use Rattle.responses.specs.declared.kind.ReadSize.the-variants.{Is as SizeIs, Refused as NoSize}
 use Rattle.responses.specs.declared.status.Input.{Input}
 use Rattle.responses.specs.declared.status.Input.the-variants.{Is as InputIs, Unknown as NoInput}
 use Rattle.responses.specs.declared.status.Volume.{Volume}
@@ -51,11 +51,11 @@ use Rattle.responses.proofs.matching.matches_response.Reads as matches-
 use Rattle.responses.proofs.status.MasterStatus.from_memory.Reads as from-memory
 
 -- an answer is known by its reading
-pub parsed-once : (a b : Parsed) → parsed a ≡ parsed b → a ≡ b
-parsed-once (Response r) (Response s) e = cc
-parsed-once (Response r) (Refused k) e = cc
-parsed-once (Refused k) (Response s) e = cc
-parsed-once (Refused j) (Refused k) e = cc
+pub response-once : (a b : ReadResponse) → readResponse a ≡ readResponse b → a ≡ b
+response-once (Response r) (Response s) e = cc
+response-once (Response r) (Refused k) e = cc
+response-once (Refused k) (Response s) e = cc
+response-once (Refused j) (Refused k) e = cc
 
 pub identified-once : (a b : Identified) → identified a ≡ identified b → a ≡ b
 identified-once (IdIs x) (IdIs y) e = cc
@@ -63,25 +63,25 @@ identified-once (IdIs x) (NoId k) e = cc
 identified-once (NoId k) (IdIs y) e = cc
 identified-once (NoId j) (NoId k) e = cc
 
-pub sized-once : (a b : Sized) → sized a ≡ sized b → a ≡ b
+pub sized-once : (a b : ReadSize) → readSize a ≡ readSize b → a ≡ b
 sized-once (SizeIs m) (SizeIs n) e = cc
 sized-once (SizeIs m) (NoSize k) e = cc
 sized-once (NoSize k) (SizeIs n) e = cc
 sized-once (NoSize j) (NoSize k) e = cc
 
-pub input-once : (a b : Input) → input a ≡ input b → a ≡ b
+pub input-once : (a b : Input) → knownInput a ≡ knownInput b → a ≡ b
 input-once (InputIs s) (InputIs t) e = cc
 input-once (InputIs s) NoInput e = cc
 input-once NoInput (InputIs t) e = cc
 input-once NoInput NoInput e = cc
 
-pub volume-once : (a b : Volume) → volume a ≡ volume b → a ≡ b
+pub volume-once : (a b : Volume) → knownVolume a ≡ knownVolume b → a ≡ b
 volume-once (VolumeIs g) (VolumeIs h) e = cc
 volume-once (VolumeIs g) NoVolume e = cc
 volume-once NoVolume (VolumeIs h) e = cc
 volume-once NoVolume NoVolume e = cc
 
-pub flag-once : (a b : Flag) → flag a ≡ flag b → a ≡ b
+pub flag-once : (a b : Flag) → knownFlag a ≡ knownFlag b → a ≡ b
 flag-once (FlagIs x) (FlagIs y) e = cc
 flag-once (FlagIs x) NoFlag e = cc
 flag-once NoFlag (FlagIs y) e = cc
@@ -103,8 +103,8 @@ count-fixed κs args a b x y p q = agree p q
 pub get-fixed : Fixes ReadValue get.Post (λ κs answer left. answer)
 get-fixed κs args a b x y p q = value-once a b (agree p q)
 
-pub from-bytes-fixed : Fixes Parsed from-bytes.Post (λ κs answer left. answer)
-from-bytes-fixed κs args a b x y p q = parsed-once a b (agree p q)
+pub from-bytes-fixed : Fixes ReadResponse from-bytes.Post (λ κs answer left. answer)
+from-bytes-fixed κs args a b x y p q = response-once a b (agree p q)
 
 pub to-bytes-fixed : Fixes (Written × List ℕ) to-bytes.Post (λ κs answer left. (answer, now (left .1 .1 .0)))
 to-bytes-fixed κs args a b x y p q = both written written-once (agree p q)
@@ -145,7 +145,7 @@ into-config-changed-fixed κs args a b x y p q = done-once a b (agree p q)
 pub is-fir-size-fixed : Fixes Bool is-fir-size.Post (λ κs answer left. answer)
 is-fir-size-fixed κs args a b x y p q = agree p q
 
-pub into-fir-size-fixed : Fixes Sized into-fir-size.Post (λ κs answer left. answer)
+pub into-fir-size-fixed : Fixes ReadSize into-fir-size.Post (λ κs answer left. answer)
 into-fir-size-fixed κs args a b x y p q = sized-once a b (agree p q)
 
 pub matches-response-fixed : Fixes Bool matches-response.Post (λ κs answer left. answer)

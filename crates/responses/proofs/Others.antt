@@ -9,7 +9,7 @@ use types.Run.{OneOf, miss}
 use denote.Enum.Declared.{tagOf}
 use Rattle.octets.specs.Outcome.{Outcome}
 use Rattle.octets.specs.Choice.{pick}
-use Rattle.responses.specs.Kind.{held, no}
+use Rattle.responses.specs.ByKind.{byKind, no}
 use Rattle.responses.specs.declared.Responses.{Responses}
 use Rattle.responses.specs.declared.Responses.the-variants.{Ack, Read, MemoryData, FloatData, HardwareId, FirLoadSize, ConfigChanged, Unk02, Unknown}
 use Rattle.responses.proofs.Responses.{the-type}
@@ -26,14 +26,14 @@ abbrev pub Unless : {A : Type 0} → ℕ → Responses → Outcome A → Type 0
 Unless k s answer = OneOf (without k kinds) (tagOf the-type s) → answer ≡ no
 
 pub record Others (s : Responses) : Type 0 where
-  pub ack : Unless 0 s (held s .ack)
-  pub read : Unless 1 s (held s .read)
-  pub memory : Unless 2 s (held s .memory)
-  pub floats : Unless 3 s (held s .floats)
-  pub hardware : Unless 4 s (held s .hardware)
-  pub size : Unless 5 s (held s .size)
-  pub config : Unless 6 s (held s .config)
-  pub unk02 : Unless 7 s (held s .unk02)
+  pub ack : Unless 0 s (byKind s .ack)
+  pub read : Unless 1 s (byKind s .read)
+  pub memory : Unless 2 s (byKind s .memory)
+  pub floats : Unless 3 s (byKind s .floats)
+  pub hardware : Unless 4 s (byKind s .hardware)
+  pub size : Unless 5 s (byKind s .size)
+  pub config : Unless 6 s (byKind s .config)
+  pub unk02 : Unless 7 s (byKind s .unk02)
 
 -- what a response of this kind would hold is not asked
 never : (k : ℕ) {A : Type 0} → T (not (hasKey (without k kinds) k)) → OneOf (without k kinds) k → A

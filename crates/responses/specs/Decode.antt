@@ -11,16 +11,16 @@ use Rattle.fields.specs.Addr.{addrAt}
 use Rattle.responses.specs.declared.Responses.{Responses}
 use Rattle.responses.specs.declared.Responses.the-variants.{Ack, Read, MemoryData, FloatData, HardwareId, FirLoadSize, ConfigChanged, Unknown}
 use Rattle.responses.specs.declared.Values.the-variants.{Chunks}
-use Rattle.responses.specs.declared.decode.Parsed.{Parsed}
-use Rattle.responses.specs.declared.decode.Parsed.the-variants.{Response, Refused}
+use Rattle.responses.specs.declared.decode.ReadResponse.{ReadResponse}
+use Rattle.responses.specs.declared.decode.ReadResponse.the-variants.{Response, Refused}
 
-abbrev pub parsed : Parsed → Outcome Responses
-parsed (Response r) = accepted r
-parsed (Refused k) = refused k
+abbrev pub readResponse : ReadResponse → Outcome Responses
+readResponse (Response r) = accepted r
+readResponse (Refused k) = refused k
 
 -- "0x02 always takes a 2-byte address, then chunks of four, the last perhaps shorter"
-abbrev pub readOf : List ℕ → Outcome Responses
-readOf p = needing 3 p (Read (addrAt 2 p 1) (Chunks (rest 3 p)))
+abbrev pub readDataOf : List ℕ → Outcome Responses
+readDataOf p = needing 3 p (Read (addrAt 2 p 1) (Chunks (rest 3 p)))
 
 abbrev pub memoryOf : List ℕ → Outcome Responses
 memoryOf p = needing 3 p (MemoryData (record { base = bigAt 2 p 1; «data» = rest 3 p }))
@@ -36,9 +36,9 @@ abbrev pub firSizeOf : List ℕ → Outcome Responses
 firSizeOf p = needing 3 p (FirLoadSize (bigAt 2 p 1))
 
 -- by the first byte; "Unknown keeps its command byte in the payload and so writes it twice"
-unfoldable pub kindOf : ℕ → List ℕ → Outcome Responses
-kindOf k p =
-    ifEq k 0x02 (readOf p)
+unfoldable pub responseBy : ℕ → List ℕ → Outcome Responses
+responseBy k p =
+    ifEq k 0x02 (readDataOf p)
     (ifEq k 0x05 (memoryOf p)
     (ifEq k 0x14 (floatsOf p)
     (ifEq k 0x31 (hardwareIdOf p)
@@ -48,4 +48,4 @@ kindOf k p =
 
 -- "packet over 254 bytes" first; then "empty is Ack"
 unfoldable pub responseOf : List ℕ → Outcome Responses
-responseOf p = ifLt 254 (length p) (refused tooLong) (ifLt (length p) 1 (accepted Ack) (kindOf (at p 0) p))
+responseOf p = ifLt 254 (length p) (refused tooLong) (ifLt (length p) 1 (accepted Ack) (responseBy (at p 0) p))

@@ -11,14 +11,14 @@ abbrev pub valuesField : Values → Field
 valuesField (Chunks place) = Payload place
 valuesField (One value) = Coded value
 
-abbrev pub rowOf : Responses → List Field
-rowOf Ack = []
-rowOf (Read addr values) = Byte 0x02 ∷ Address addr ∷ valuesField values ∷ []
-rowOf (MemoryData view) = Byte 0x05 ∷ Word (view .base) ∷ Payload (view .data) ∷ []
-rowOf (FloatData view) = Byte 0x14 ∷ Word (view .base) ∷ Floats (view .start) (view .count) ∷ []
-rowOf (HardwareId id) = Byte 0x31 ∷ Byte (id .«fw_major») ∷ Byte (id .«fw_minor») ∷ Byte (id .«hw_id») ∷ []
-rowOf (FirLoadSize size) = Byte 0x39 ∷ Word size ∷ []
-rowOf ConfigChanged = Byte 0xAB ∷ []
+abbrev pub responseRow : Responses → List Field
+responseRow Ack = []
+responseRow (Read addr values) = Byte 0x02 ∷ Address addr ∷ valuesField values ∷ []
+responseRow (MemoryData view) = Byte 0x05 ∷ Word (view .base) ∷ Payload (view .data) ∷ []
+responseRow (FloatData view) = Byte 0x14 ∷ Word (view .base) ∷ Floats (view .start) (view .count) ∷ []
+responseRow (HardwareId id) = Byte 0x31 ∷ Byte (id .«fw_major») ∷ Byte (id .«fw_minor») ∷ Byte (id .«hw_id») ∷ []
+responseRow (FirLoadSize size) = Byte 0x39 ∷ Word size ∷ []
+responseRow ConfigChanged = Byte 0xAB ∷ []
 -- "Unk02 is written as 02"
-rowOf Unk02 = Byte 0x02 ∷ []
-rowOf (Unknown id payload) = Byte id ∷ Payload payload ∷ []
+responseRow Unk02 = Byte 0x02 ∷ []
+responseRow (Unknown id payload) = Byte id ∷ Payload payload ∷ []

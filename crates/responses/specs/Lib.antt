@@ -1,6 +1,6 @@
 pub mod Values
 pub mod Encode
 pub mod Decode
-pub mod Kind
+pub mod ByKind
 pub mod Matching
 pub mod Status

@@ -9,7 +9,7 @@ use Rattle.views.specs.declared.floats.FloatView.{FloatView}
 use Rattle.commands.specs.declared.Commands.{Commands}
 use Rattle.commands.specs.declared.Commands.the-variants.{ReadHardwareId, ReadFloats, WriteMemory, ReadMemory, SetConfig, SetSource, SetMute, SetVolume, WriteBiquad, WriteBiquadBypass, Read, Write, FirLoadStart, FirLoadData, FirLoadEnd, DiracBypass, BulkLoad, BulkLoadFilterData, Unk07, SwitchMux, Unknown}
 use Rattle.responses.specs.declared.Responses.{Responses}
-use Rattle.responses.specs.Kind.{held, isAccepted}
+use Rattle.responses.specs.ByKind.{byKind, isAccepted}
 
 -- of the address and the size that were asked for
 abbrev pub isMemory : ℕ → ℕ → Outcome MemoryView → Bool
@@ -21,24 +21,24 @@ areFloats addr len (accepted view) = ifEq (view .base) addr (eqb (view .count) l
 areFloats addr len (refused k) = false
 
 abbrev pub matches : Commands → Responses → Bool
-matches (ReadMemory addr size) s = isMemory addr size (held s .memory)
-matches (ReadFloats addr len) s = areFloats addr len (held s .floats)
-matches ReadHardwareId s = isAccepted (held s .hardware)
-matches (SetConfig config reset) s = isAccepted (held s .config)
-matches (FirLoadStart index) s = isAccepted (held s .size)
-matches (Unk07 payload) s = isAccepted (held s .unk02)
-matches (Read addr len) s = isAccepted (held s .read)
-matches (WriteMemory addr place) s = isAccepted (held s .ack)
-matches (SetSource source) s = isAccepted (held s .ack)
-matches (SetMute value) s = isAccepted (held s .ack)
-matches (SetVolume value) s = isAccepted (held s .ack)
-matches (WriteBiquad addr) s = isAccepted (held s .ack)
-matches (WriteBiquadBypass addr value) s = isAccepted (held s .ack)
-matches (Write addr value) s = isAccepted (held s .ack)
-matches (FirLoadData index start count) s = isAccepted (held s .ack)
-matches FirLoadEnd s = isAccepted (held s .ack)
-matches (BulkLoad payload) s = isAccepted (held s .ack)
-matches (BulkLoadFilterData payload) s = isAccepted (held s .ack)
-matches (DiracBypass value) s = isAccepted (held s .ack)
-matches (SwitchMux addr max arg slot) s = isAccepted (held s .ack)
+matches (ReadMemory addr size) s = isMemory addr size (byKind s .memory)
+matches (ReadFloats addr len) s = areFloats addr len (byKind s .floats)
+matches ReadHardwareId s = isAccepted (byKind s .hardware)
+matches (SetConfig config reset) s = isAccepted (byKind s .config)
+matches (FirLoadStart index) s = isAccepted (byKind s .size)
+matches (Unk07 payload) s = isAccepted (byKind s .unk02)
+matches (Read addr len) s = isAccepted (byKind s .read)
+matches (WriteMemory addr place) s = isAccepted (byKind s .ack)
+matches (SetSource source) s = isAccepted (byKind s .ack)
+matches (SetMute value) s = isAccepted (byKind s .ack)
+matches (SetVolume value) s = isAccepted (byKind s .ack)
+matches (WriteBiquad addr) s = isAccepted (byKind s .ack)
+matches (WriteBiquadBypass addr value) s = isAccepted (byKind s .ack)
+matches (Write addr value) s = isAccepted (byKind s .ack)
+matches (FirLoadData index start count) s = isAccepted (byKind s .ack)
+matches FirLoadEnd s = isAccepted (byKind s .ack)
+matches (BulkLoad payload) s = isAccepted (byKind s .ack)
+matches (BulkLoadFilterData payload) s = isAccepted (byKind s .ack)
+matches (DiracBypass value) s = isAccepted (byKind s .ack)
+matches (SwitchMux addr max arg slot) s = isAccepted (byKind s .ack)
 matches (Unknown id payload) s = true

@@ -7,12 +7,12 @@ use lib.Dec.{eqb}
 use Rattle.octets.specs.Choice.{pick}
 use Rattle.numbers.specs.declared.gain.Gain.{Gain}
 use Rattle.commands.specs.Decode.{gainOf}
-use Rattle.facts.specs.Eeprom.{preset, source, sourceAsync, masterVolume, mute, diracBypass}
-use Rattle.facts.specs.Kind.{diracOf}
+use Rattle.facts.specs.Eeprom.{atPreset, atSource, atSourceAsync, atMasterVolume, atMute, atDiracBypass}
+use Rattle.facts.specs.DeviceInfo.{supportsDirac}
 use Rattle.facts.specs.Source.{fromId, mappingOf}
 use Rattle.facts.specs.declared.DeviceInfo.{DeviceInfo}
 use Rattle.facts.specs.declared.source.Source.{Source}
-use Rattle.views.specs.Reading.{byte, byteAt}
+use Rattle.views.specs.Reading.{readByte, byteAt}
 use Rattle.views.specs.declared.memory.MemoryView.{MemoryView}
 use Rattle.responses.specs.declared.status.Input.{Input}
 use Rattle.responses.specs.declared.status.Input.the-variants.{Is as InputIs, Unknown as NoInput}
@@ -23,17 +23,17 @@ use Rattle.responses.specs.declared.status.Flag.the-variants.{Is as Flag
 use Rattle.responses.specs.declared.status.MasterStatus.{MasterStatus}
 
 -- answers that may be "none"
-abbrev pub input : Input → Option Source
-input (InputIs s) = some s
-input NoInput = none
+abbrev pub knownInput : Input → Option Source
+knownInput (InputIs s) = some s
+knownInput NoInput = none
 
-abbrev pub volume : Volume → Option Gain
-volume (VolumeIs g) = some g
-volume NoVolume = none
+abbrev pub knownVolume : Volume → Option Gain
+knownVolume (VolumeIs g) = some g
+knownVolume NoVolume = none
 
-abbrev pub flag : Flag → Option Bool
-flag (FlagIs b) = some b
-flag NoFlag = none
+abbrev pub knownFlag : Flag → Option Bool
+knownFlag (FlagIs b) = some b
+knownFlag NoFlag = none
 
 abbrev pub orElse : {A : Type 0} → Option A → Option A → Option A
 orElse (some a) second = some a
@@ -41,7 +41,7 @@ orElse none second = second
 
 -- "Dirac where supported": a bypass of 0 is on
 abbrev pub diracIn : DeviceInfo → Option ℕ → Option Bool
-diracIn info bypass = pick (diracOf (info .«dsp_version»)) (Option·map (λ n. eqb n 0) bypass) none
+diracIn info bypass = pick (supportsDirac (info .«dsp_version»)) (Option·map (λ n. eqb n 0) bypass) none
 
 pub record Status : Type 0 where
   pub preset : Option ℕ
@@ -51,15 +51,22 @@ pub record Status : Type 0 where
   pub dirac : Option Bool
 
 abbrev pub status : MasterStatus → Status
-status s = record { preset = byte (s .preset); source = input (s .source); volume = volume (s .volume); mute = flag (s .mute); dirac = flag (s .dirac) }
+status s =
+    record {
+      preset = readByte (s .preset);
+      source = knownInput (s .source);
+      volume = knownVolume (s .volume);
+      mute = knownFlag (s .mute);
+      dirac = knownFlag (s .dirac);
+    }
 
 -- the source has a fallback address
 abbrev pub statusOf : DeviceInfo → MemoryView → List ℕ → Status
 statusOf info view bytes =
     record {
-      preset = byteAt view bytes preset;
-      source = Option·map (λ n. fromId n (mappingOf (info .«hw_id») (info .«dsp_version»))) (orElse (byteAt view bytes source) (byteAt view bytes sourceAsync));
-      volume = Option·map gainOf (byteAt view bytes masterVolume);
-      mute = Option·map (λ n. eqb n 1) (byteAt view bytes mute);
-      dirac = diracIn info (byteAt view bytes diracBypass);
+      preset = byteAt view bytes atPreset;
+      source = Option·map (λ n. fromId n (mappingOf (info .«hw_id») (info .«dsp_version»))) (orElse (byteAt view bytes atSource) (byteAt view bytes atSourceAsync));
+      volume = Option·map gainOf (byteAt view bytes atMasterVolume);
+      mute = Option·map (λ n. eqb n 1) (byteAt view bytes atMute);
+      dirac = diracIn info (byteAt view bytes atDiracBypass);
     }

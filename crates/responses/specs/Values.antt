@@ -5,7 +5,7 @@ use lib.ListN.{length}
 use Rattle.octets.specs.Refusals.{outside}
 use Rattle.octets.specs.Outcome.{Outcome, accepted, refused}
 use Rattle.octets.specs.Choice.{pick, ifLt, ifEq}
-use Rattle.octets.specs.Place.{placeAt, outsideOf}
+use Rattle.octets.specs.Place.{placeAt, isOutside}
 use Rattle.octets.specs.declared.Place.{Place}
 use Rattle.fields.specs.Value.{valueAt}
 use Rattle.fields.specs.declared.value.Value.{Value}
@@ -21,8 +21,8 @@ abbrev pub chunkAt : Place → ℕ → Place
 chunkAt place i = placeAt (place .start + i * 4) (min 4 (place .len - i * 4))
 
 -- value number i, which is outside where there are no more than i
-abbrev pub valueNumber : Values → List ℕ → ℕ → Outcome Value
-valueNumber (Chunks place) bytes i =
-    pick (outsideOf place (length bytes)) (refused outside)
+abbrev pub nthValue : Values → List ℕ → ℕ → Outcome Value
+nthValue (Chunks place) bytes i =
+    pick (isOutside place (length bytes)) (refused outside)
     (ifLt (i * 4) (place .len) (accepted (valueAt bytes (chunkAt place i))) (refused outside))
-valueNumber (One value) bytes i = ifEq i 0 (accepted value) (refused outside)
+nthValue (One value) bytes i = ifEq i 0 (accepted value) (refused outside)

@@ -1,7 +1,7 @@
 // Reading responses. (Responses::from_bytes)
 ghost use mathlib.Core.Path.{_≡_};
 ghost use Rattle.octets.specs.Reading.{needing as needed};
-ghost use Rattle.responses.specs.Decode.{parsed, readOf, memoryOf, floatsOf, hardwareIdOf, firSizeOf, kindOf, responseOf};
+ghost use Rattle.responses.specs.Decode.{readResponse, readDataOf, memoryOf, floatsOf, hardwareIdOf, firSizeOf, responseBy, responseOf};
 use crate::Responses;
 use crate::Values;
 use facts::HardwareId;
@@ -12,37 +12,37 @@ use views::floats::FloatView;
 use views::memory::MemoryView;
 
 // A response that was read, or the number of the refusal.
-pub enum Parsed {
+pub enum ReadResponse {
     Response(Responses),
     Refused(u8),
 }
 
 impl Responses {
     // Reads a packet. A payload of the response stands in the packet.
-    pub fn from_bytes(packet: &[u8]) -> Parsed
-        ensures { λ r. ⌜ parsed r ≡ responseOf (now (packet .entry)) ⌝ }
+    pub fn from_bytes(packet: &[u8]) -> ReadResponse
+        ensures { λ r. ⌜ readResponse r ≡ responseOf (now (packet .entry)) ⌝ }
     {
         if packet::LONGEST_PACKET < packet.len() {
-            return Parsed::Refused(refusal::TOO_LONG);
+            return ReadResponse::Refused(refusal::TOO_LONG);
         }
         if packet.len() < 1 {
-            return Parsed::Response(Responses::Ack);
+            return ReadResponse::Response(Responses::Ack);
         }
-        by_kind(number::byte(packet, 0), packet)
+        response_by(number::byte(packet, 0), packet)
     }
 }
 
-fn by_kind(kind: u8, p: &[u8]) -> Parsed
-    ensures { λ r. ⌜ parsed r ≡ kindOf kind (now (p .entry)) ⌝ }
+fn response_by(kind: u8, p: &[u8]) -> ReadResponse
+    ensures { λ r. ⌜ readResponse r ≡ responseBy kind (now (p .entry)) ⌝ }
 {
     match kind {
-        0x02 => parse_read(p),
+        0x02 => parse_read_data(p),
         0x05 => parse_memory(p),
         0x14 => parse_floats(p),
         0x31 => parse_hardware_id(p),
         0x39 => parse_fir_size(p),
-        0xab => Parsed::Response(Responses::ConfigChanged),
-        _ => Parsed::Response(Responses::Unknown {
+        0xab => ReadResponse::Response(Responses::ConfigChanged),
+        _ => ReadResponse::Response(Responses::Unknown {
             cmd_id: kind,
             payload: octets::rest_of(p, 0),
         }),
@@ -50,34 +50,34 @@ fn by_kind(kind: u8, p: &[u8]) -> Parsed
 }
 
 // The response, where the packet has the n bytes that it needs.
-fn needing(p: &[u8], n: usize, response: Responses) -> Parsed
-    ensures { λ r. ⌜ parsed r ≡ needed n (now (p .entry)) response ⌝ }
+fn needing(p: &[u8], n: usize, response: Responses) -> ReadResponse
+    ensures { λ r. ⌜ readResponse r ≡ needed n (now (p .entry)) response ⌝ }
 {
     if p.len() < n {
-        return Parsed::Refused(refusal::ENDS);
+        return ReadResponse::Refused(refusal::ENDS);
     }
-    Parsed::Response(response)
+    ReadResponse::Response(response)
 }
 
 // An address here takes two bytes always.
-fn parse_read(p: &[u8]) -> Parsed
-    ensures { λ r. ⌜ parsed r ≡ readOf (now (p .entry)) ⌝ }
+fn parse_read_data(p: &[u8]) -> ReadResponse
+    ensures { λ r. ⌜ readResponse r ≡ readDataOf (now (p .entry)) ⌝ }
 {
     let addr = Addr::at(p, 1, false);
     let data = Values::Chunks(octets::rest_of(p, 3));
     needing(p, 3, Responses::Read { addr, data })
 }
 
-fn parse_memory(p: &[u8]) -> Parsed
-    ensures { λ r. ⌜ parsed r ≡ memoryOf (now (p .entry)) ⌝ }
+fn parse_memory(p: &[u8]) -> ReadResponse
+    ensures { λ r. ⌜ readResponse r ≡ memoryOf (now (p .entry)) ⌝ }
 {
     let base = number::big16(p, 1);
     let data = octets::rest_of(p, 3);
     needing(p, 3, Responses::MemoryData(MemoryView { base, data }))
 }
 
-fn parse_floats(p: &[u8]) -> Parsed
-    ensures { λ r. ⌜ parsed r ≡ floatsOf (now (p .entry)) ⌝ }
+fn parse_floats(p: &[u8]) -> ReadResponse
+    ensures { λ r. ⌜ readResponse r ≡ floatsOf (now (p .entry)) ⌝ }
 {
     let base = number::big16(p, 1);
     let count = octets::rest_of(p, 3).len / 4;
@@ -89,8 +89,8 @@ fn parse_floats(p: &[u8]) -> Parsed
     needing(p, 3, Responses::FloatData(view))
 }
 
-fn parse_hardware_id(p: &[u8]) -> Parsed
-    ensures { λ r. ⌜ parsed r ≡ hardwareIdOf (now (p .entry)) ⌝ }
+fn parse_hardware_id(p: &[u8]) -> ReadResponse
+    ensures { λ r. ⌜ readResponse r ≡ hardwareIdOf (now (p .entry)) ⌝ }
 {
     let id = HardwareId {
         fw_major: number::byte(p, 1),
@@ -100,8 +100,8 @@ fn parse_hardware_id(p: &[u8]) -> Parsed
     needing(p, 4, Responses::HardwareId(id))
 }
 
-fn parse_fir_size(p: &[u8]) -> Parsed
-    ensures { λ r. ⌜ parsed r ≡ firSizeOf (now (p .entry)) ⌝ }
+fn parse_fir_size(p: &[u8]) -> ReadResponse
+    ensures { λ r. ⌜ readResponse r ≡ firSizeOf (now (p .entry)) ⌝ }
 {
     let size = number::big16(p, 1);
     needing(p, 3, Responses::FirLoadSize { size })

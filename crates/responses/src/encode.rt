@@ -1,9 +1,9 @@
 // Writing responses: each is a row of fields. (Responses::to_bytes)
 ghost use mathlib.Core.Path.{_≡_};
 ghost use Rattle.octets.specs.Outcome.{written};
-ghost use Rattle.fields.specs.Row.{writeInto, frameInto, fieldsOf, padded};
+ghost use Rattle.fields.specs.Row.{rowInto, rowFrameInto, fieldsOf, padded};
 ghost use Rattle.responses.specs.declared.Responses.the-variants.{MemoryData, FloatData};
-ghost use Rattle.responses.specs.Encode.{rowOf, valuesField};
+ghost use Rattle.responses.specs.Encode.{responseRow, valuesField};
 use crate::Responses;
 use crate::Values;
 use fields::row;
@@ -16,21 +16,21 @@ use views::memory::MemoryView;
 impl Responses {
     // Writes the response's packet over the start of out. A payload stands in the bytes lent beside.
     pub fn to_bytes(self, payload: &[u8], out: &mut [u8]) -> Written
-        ensures { λ r. ⌜ (written r, now (out .exit)) ≡ writeInto (now (payload .entry)) (rowOf self) (now (out .entry)) ⌝ }
+        ensures { λ r. ⌜ (written r, now (out .exit)) ≡ rowInto (now (payload .entry)) (responseRow self) (now (out .entry)) ⌝ }
     {
-        row::write(row_of(self), payload, out)
+        row::write(response_row(self), payload, out)
     }
 
     // Writes the response's frame.
     pub fn to_frame(self, payload: &[u8], out: &mut [u8]) -> Written
-        ensures { λ r. ⌜ (written r, now (out .exit)) ≡ frameInto (now (payload .entry)) (rowOf self) (now (out .entry)) ⌝ }
+        ensures { λ r. ⌜ (written r, now (out .exit)) ≡ rowFrameInto (now (payload .entry)) (responseRow self) (now (out .entry)) ⌝ }
     {
-        row::frame(row_of(self), payload, out)
+        row::frame(response_row(self), payload, out)
     }
 }
 
-fn row_of(response: Responses) -> [Cell; 8]
-    ensures { λ r. ⌜ fieldsOf r ≡ padded (rowOf response) ⌝ }
+fn response_row(response: Responses) -> [Cell; 8]
+    ensures { λ r. ⌜ fieldsOf r ≡ padded (responseRow response) ⌝ }
 {
     match response {
         Responses::Ack => row::row1(Field::Nothing),
@@ -58,7 +58,7 @@ fn row_of(response: Responses) -> [Cell; 8]
 }
 
 fn memory_row(view: MemoryView) -> [Cell; 8]
-    ensures { λ r. ⌜ fieldsOf r ≡ padded (rowOf (MemoryData view)) ⌝ }
+    ensures { λ r. ⌜ fieldsOf r ≡ padded (responseRow (MemoryData view)) ⌝ }
 {
     let data = view.data;
     row::row3(
@@ -69,7 +69,7 @@ fn memory_row(view: MemoryView) -> [Cell; 8]
 }
 
 fn floats_row(view: FloatView) -> [Cell; 8]
-    ensures { λ r. ⌜ fieldsOf r ≡ padded (rowOf (FloatData view)) ⌝ }
+    ensures { λ r. ⌜ fieldsOf r ≡ padded (responseRow (FloatData view)) ⌝ }
 {
     row::row3(
         Field::Byte(0x14),

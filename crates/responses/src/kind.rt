@@ -2,7 +2,7 @@
 ghost use mathlib.Core.Path.{_≡_};
 ghost use Rattle.octets.specs.Outcome.{done};
 ghost use Rattle.views.specs.View.{memoryAnswer, floatsAnswer};
-ghost use Rattle.responses.specs.Kind.{isAccepted, identified, sized, held};
+ghost use Rattle.responses.specs.ByKind.{isAccepted, identified, readSize, byKind};
 use crate::Responses;
 use facts::HardwareId;
 use octets::Done;
@@ -16,14 +16,14 @@ pub enum Identified {
     Refused(u8),
 }
 
-pub enum Sized {
+pub enum ReadSize {
     Is(u16),
     Refused(u8),
 }
 
 impl Responses {
     pub fn is_memory_view(self) -> bool
-        ensures { λ r. ⌜ r ≡ isAccepted (held self .memory) ⌝ }
+        ensures { λ r. ⌜ r ≡ isAccepted (byKind self .memory) ⌝ }
     {
         match self {
             Responses::MemoryData(_) => true,
@@ -31,17 +31,17 @@ impl Responses {
         }
     }
 
-    pub fn into_memory_view(self) -> memory::Answer
-        ensures { λ r. ⌜ memoryAnswer r ≡ held self .memory ⌝ }
+    pub fn into_memory_view(self) -> memory::MemoryAnswer
+        ensures { λ r. ⌜ memoryAnswer r ≡ byKind self .memory ⌝ }
     {
         match self {
-            Responses::MemoryData(view) => memory::Answer::View(view),
-            _ => memory::Answer::Refused(refusal::OTHER_KIND),
+            Responses::MemoryData(view) => memory::MemoryAnswer::Is(view),
+            _ => memory::MemoryAnswer::Refused(refusal::OTHER_KIND),
         }
     }
 
     pub fn is_float_view(self) -> bool
-        ensures { λ r. ⌜ r ≡ isAccepted (held self .floats) ⌝ }
+        ensures { λ r. ⌜ r ≡ isAccepted (byKind self .floats) ⌝ }
     {
         match self {
             Responses::FloatData(_) => true,
@@ -49,17 +49,17 @@ impl Responses {
         }
     }
 
-    pub fn into_float_view(self) -> floats::Answer
-        ensures { λ r. ⌜ floatsAnswer r ≡ held self .floats ⌝ }
+    pub fn into_float_view(self) -> floats::FloatsAnswer
+        ensures { λ r. ⌜ floatsAnswer r ≡ byKind self .floats ⌝ }
     {
         match self {
-            Responses::FloatData(view) => floats::Answer::View(view),
-            _ => floats::Answer::Refused(refusal::OTHER_KIND),
+            Responses::FloatData(view) => floats::FloatsAnswer::Is(view),
+            _ => floats::FloatsAnswer::Refused(refusal::OTHER_KIND),
         }
     }
 
     pub fn is_hardware_id(self) -> bool
-        ensures { λ r. ⌜ r ≡ isAccepted (held self .hardware) ⌝ }
+        ensures { λ r. ⌜ r ≡ isAccepted (byKind self .hardware) ⌝ }
     {
         match self {
             Responses::HardwareId(_) => true,
@@ -68,7 +68,7 @@ impl Responses {
     }
 
     pub fn into_hardware_id(self) -> Identified
-        ensures { λ r. ⌜ identified r ≡ held self .hardware ⌝ }
+        ensures { λ r. ⌜ identified r ≡ byKind self .hardware ⌝ }
     {
         match self {
             Responses::HardwareId(id) => Identified::Is(id),
@@ -77,7 +77,7 @@ impl Responses {
     }
 
     pub fn is_ack(self) -> bool
-        ensures { λ r. ⌜ r ≡ isAccepted (held self .ack) ⌝ }
+        ensures { λ r. ⌜ r ≡ isAccepted (byKind self .ack) ⌝ }
     {
         match self {
             Responses::Ack => true,
@@ -86,7 +86,7 @@ impl Responses {
     }
 
     pub fn into_ack(self) -> Done
-        ensures { λ r. ⌜ done r ≡ held self .ack ⌝ }
+        ensures { λ r. ⌜ done r ≡ byKind self .ack ⌝ }
     {
         match self {
             Responses::Ack => Done::Done,
@@ -95,7 +95,7 @@ impl Responses {
     }
 
     pub fn is_config_changed(self) -> bool
-        ensures { λ r. ⌜ r ≡ isAccepted (held self .config) ⌝ }
+        ensures { λ r. ⌜ r ≡ isAccepted (byKind self .config) ⌝ }
     {
         match self {
             Responses::ConfigChanged => true,
@@ -104,7 +104,7 @@ impl Responses {
     }
 
     pub fn into_config_changed(self) -> Done
-        ensures { λ r. ⌜ done r ≡ held self .config ⌝ }
+        ensures { λ r. ⌜ done r ≡ byKind self .config ⌝ }
     {
         match self {
             Responses::ConfigChanged => Done::Done,
@@ -113,7 +113,7 @@ impl Responses {
     }
 
     pub fn is_fir_size(self) -> bool
-        ensures { λ r. ⌜ r ≡ isAccepted (held self .size) ⌝ }
+        ensures { λ r. ⌜ r ≡ isAccepted (byKind self .size) ⌝ }
     {
         match self {
             Responses::FirLoadSize { size: _ } => true,
@@ -121,12 +121,12 @@ impl Responses {
         }
     }
 
-    pub fn into_fir_size(self) -> Sized
-        ensures { λ r. ⌜ sized r ≡ held self .size ⌝ }
+    pub fn into_fir_size(self) -> ReadSize
+        ensures { λ r. ⌜ readSize r ≡ byKind self .size ⌝ }
     {
         match self {
-            Responses::FirLoadSize { size } => Sized::Is(size),
-            _ => Sized::Refused(refusal::OTHER_KIND),
+            Responses::FirLoadSize { size } => ReadSize::Is(size),
+            _ => ReadSize::Refused(refusal::OTHER_KIND),
         }
     }
 }

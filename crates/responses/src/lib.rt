@@ -1,7 +1,7 @@
 // Responses of the processor. (commands.rs)
 ghost use mathlib.Core.Path.{_≡_};
 ghost use Prim.Native.Nat.{min};
-ghost use Rattle.responses.specs.Values.{valuesCount, valueNumber};
+ghost use Rattle.responses.specs.Values.{valuesCount, nthValue};
 ghost use Rattle.fields.specs.Value.{readValue};
 ghost use Rattle.responses.specs.declared.Values.the-variants.{Chunks};
 use facts::HardwareId;
@@ -58,7 +58,7 @@ impl Values {
 
     // Value number i; the bytes of those in chunks are lent beside.
     pub fn get(self, bytes: &[u8], i: usize) -> ReadValue
-        ensures { λ r. ⌜ readValue r ≡ valueNumber self (now (bytes .entry)) i ⌝ }
+        ensures { λ r. ⌜ readValue r ≡ nthValue self (now (bytes .entry)) i ⌝ }
     {
         match self {
             Values::Chunks(place) => chunk(place, bytes, i),
@@ -74,10 +74,10 @@ impl Values {
 
 // Chunk number i of the bytes at a place.
 fn chunk(place: Place, bytes: &[u8], i: usize) -> ReadValue
-    ensures { λ r. ⌜ readValue r ≡ valueNumber (Chunks place) (now (bytes .entry)) i ⌝ }
+    ensures { λ r. ⌜ readValue r ≡ nthValue (Chunks place) (now (bytes .entry)) i ⌝ }
 {
     let all = place.len;
-    if octets::outside(place, bytes.len()) {
+    if octets::is_outside(place, bytes.len()) {
         return ReadValue::Refused(refusal::OUTSIDE);
     }
     // four times i need not fit

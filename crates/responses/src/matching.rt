@@ -1,7 +1,7 @@
 // Which response answers a command. (Commands::matches_response; it stands here, since commands know
 // nothing of responses)
 ghost use mathlib.Core.Path.{_≡_};
-ghost use Rattle.responses.specs.Kind.{isAccepted, held};
+ghost use Rattle.responses.specs.ByKind.{isAccepted, byKind};
 ghost use Rattle.responses.specs.Matching.{matches, isMemory, areFloats};
 use crate::Responses;
 use commands::Commands;
@@ -35,7 +35,7 @@ pub fn matches_response(command: Commands, response: Responses) -> bool
 }
 
 fn is_memory(response: Responses, addr: u16, size: u8) -> bool
-    ensures { λ r. ⌜ r ≡ isMemory addr size (held response .memory) ⌝ }
+    ensures { λ r. ⌜ r ≡ isMemory addr size (byKind response .memory) ⌝ }
 {
     match response {
         Responses::MemoryData(view) => {
@@ -50,7 +50,7 @@ fn is_memory(response: Responses, addr: u16, size: u8) -> bool
 }
 
 fn are_floats(response: Responses, addr: u16, len: u8) -> bool
-    ensures { λ r. ⌜ r ≡ areFloats addr len (held response .floats) ⌝ }
+    ensures { λ r. ⌜ r ≡ areFloats addr len (byKind response .floats) ⌝ }
 {
     match response {
         Responses::FloatData(view) => {
@@ -64,7 +64,7 @@ fn are_floats(response: Responses, addr: u16, len: u8) -> bool
 }
 
 fn is_read(response: Responses) -> bool
-    ensures { λ r. ⌜ r ≡ isAccepted (held response .read) ⌝ }
+    ensures { λ r. ⌜ r ≡ isAccepted (byKind response .read) ⌝ }
 {
     match response {
         Responses::Read { addr: _, data: _ } => true,
@@ -73,7 +73,7 @@ fn is_read(response: Responses) -> bool
 }
 
 fn is_unk02(response: Responses) -> bool
-    ensures { λ r. ⌜ r ≡ isAccepted (held response .unk02) ⌝ }
+    ensures { λ r. ⌜ r ≡ isAccepted (byKind response .unk02) ⌝ }
 {
     match response {
         Responses::Unk02 => true,

@@ -4,14 +4,14 @@ ghost use mathlib.Core.Option.{Option·map};
 ghost use lib.Dec.{eqb};
 ghost use Rattle.commands.specs.Decode.{gainOf};
 ghost use Rattle.facts.specs.Source.{fromId, mappingOf};
-ghost use Rattle.views.specs.Reading.{byte};
-ghost use Rattle.responses.specs.Status.{orElse, input, volume, flag, diracIn, status, statusOf};
+ghost use Rattle.views.specs.Reading.{readByte};
+ghost use Rattle.responses.specs.Status.{orElse, knownInput, knownVolume, knownFlag, diracIn, status, statusOf};
 use facts::DeviceInfo;
 use facts::eeprom;
 use facts::source::Source;
 use numbers::gain::Gain;
-use views::memory::Byte;
 use views::memory::MemoryView;
+use views::memory::ReadByte;
 
 // Each is Unknown where the view does not hold it.
 pub enum Input {
@@ -31,7 +31,7 @@ pub enum Flag {
 
 pub struct MasterStatus {
     // Active configuration preset
-    pub preset: Byte,
+    pub preset: ReadByte,
     // Active source
     pub source: Input,
     // Volume in dB [-127, 0]
@@ -57,51 +57,51 @@ impl MasterStatus {
             source: input_of(or_else(source, source_async), info),
             volume: volume_of(volume),
             mute: flag_of(mute, 1),
-            dirac: dirac_of(info, dirac),
+            dirac: dirac_in(info, dirac),
         }
     }
 }
 
-fn or_else(first: Byte, second: Byte) -> Byte
-    ensures { λ r. ⌜ byte r ≡ orElse (byte first) (byte second) ⌝ }
+fn or_else(first: ReadByte, second: ReadByte) -> ReadByte
+    ensures { λ r. ⌜ readByte r ≡ orElse (readByte first) (readByte second) ⌝ }
 {
     match first {
-        Byte::Is(n) => Byte::Is(n),
-        Byte::Outside => second,
+        ReadByte::Is(n) => ReadByte::Is(n),
+        ReadByte::Outside => second,
     }
 }
 
-fn input_of(id: Byte, info: DeviceInfo) -> Input
-    ensures { λ r. ⌜ input r ≡ Option·map (λ n. fromId n (mappingOf (info .«hw_id») (info .«dsp_version»))) (byte id) ⌝ }
+fn input_of(id: ReadByte, info: DeviceInfo) -> Input
+    ensures { λ r. ⌜ knownInput r ≡ Option·map (λ n. fromId n (mappingOf (info .«hw_id») (info .«dsp_version»))) (readByte id) ⌝ }
 {
     match id {
-        Byte::Is(n) => Input::Is(Source::from_id(n, info)),
-        Byte::Outside => Input::Unknown,
+        ReadByte::Is(n) => Input::Is(Source::from_id(n, info)),
+        ReadByte::Outside => Input::Unknown,
     }
 }
 
-fn volume_of(gain: Byte) -> Volume
-    ensures { λ r. ⌜ volume r ≡ Option·map gainOf (byte gain) ⌝ }
+fn volume_of(gain: ReadByte) -> Volume
+    ensures { λ r. ⌜ knownVolume r ≡ Option·map gainOf (readByte gain) ⌝ }
 {
     match gain {
-        Byte::Is(n) => Volume::Is(Gain::from_u8(n)),
-        Byte::Outside => Volume::Unknown,
+        ReadByte::Is(n) => Volume::Is(Gain::from_u8(n)),
+        ReadByte::Outside => Volume::Unknown,
     }
 }
 
 // Whether the byte is the one that means yes.
-fn flag_of(found: Byte, yes: u8) -> Flag
-    ensures { λ r. ⌜ flag r ≡ Option·map (λ n. eqb n yes) (byte found) ⌝ }
+fn flag_of(found: ReadByte, yes: u8) -> Flag
+    ensures { λ r. ⌜ knownFlag r ≡ Option·map (λ n. eqb n yes) (readByte found) ⌝ }
 {
     match found {
-        Byte::Is(n) => Flag::Is(n == yes),
-        Byte::Outside => Flag::Unknown,
+        ReadByte::Is(n) => Flag::Is(n == yes),
+        ReadByte::Outside => Flag::Unknown,
     }
 }
 
 // The byte says whether Dirac Live is bypassed.
-fn dirac_of(info: DeviceInfo, bypass: Byte) -> Flag
-    ensures { λ r. ⌜ flag r ≡ diracIn info (byte bypass) ⌝ }
+fn dirac_in(info: DeviceInfo, bypass: ReadByte) -> Flag
+    ensures { λ r. ⌜ knownFlag r ≡ diracIn info (readByte bypass) ⌝ }
 {
     if info.supports_dirac() {
         return flag_of(bypass, 0);

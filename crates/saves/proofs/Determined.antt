@@ -19,7 +19,7 @@ use Rattle.saves.proofs.stream.tag_of.Reads as tag-of
 use Rattle.saves.proofs.stream.content_of.Reads as content-of
 use Rattle.saves.proofs.stream.field_end.Reads as field-end
 use Rattle.saves.proofs.stream.end_of.Reads as end-of
-use Rattle.saves.proofs.stream.packet_of.Reads as packet-of
+use Rattle.saves.proofs.stream.packet_in.Reads as packet-in
 use Rattle.saves.proofs.shape.shape_of.Reads as shape-of
 use Rattle.saves.proofs.means.meaning_of.Reads as meaning-of
 use Rattle.saves.proofs.save.save.Reads as save
@@ -51,8 +51,8 @@ field-end-fixed κs args a b x y p q = agree p q
 pub end-of-fixed : Fixes Done end-of.Post (λ κs answer left. answer)
 end-of-fixed κs args a b x y p q = done-once a b (agree p q)
 
-pub packet-of-fixed : Fixes (List ℕ) packet-of.Post (λ κs answer left. now answer)
-packet-of-fixed κs args a b x y p q = agree p q
+pub packet-in-fixed : Fixes (List ℕ) packet-in.Post (λ κs answer left. now answer)
+packet-in-fixed κs args a b x y p q = agree p q
 
 pub shape-of-fixed : Fixes Judged shape-of.Post (λ κs answer left. answer)
 shape-of-fixed κs args a b x y p q = judged-once a b (agree p q)

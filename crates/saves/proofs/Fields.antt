@@ -12,8 +12,8 @@ use Rattle.octets.proofs.Parts.{part-between}
 use Rattle.packet.specs.Frame.{frameOf}
 use Rattle.packet.proofs.Frames.{length-frame}
 use Rattle.processor.specs.Memory.{Memory}
-use Rattle.saves.specs.Save.{field, frameField, memoryPacket, wordPacket, rising, endField, blocks, fieldsFor}
-use Rattle.saves.specs.Stream.{lengthOf, contentOf, behind, tagOf, stream, before, streamOf}
+use Rattle.saves.specs.Save.{saveField, frameField, memoryPacket, wordPacket, rising, endField, blocks, fieldsFor}
+use Rattle.saves.specs.Stream.{lengthOf, contentOf, behind, tagOf, stream, withFrame, streamOf}
 use Rattle.saves.specs.Writes.{each, framesFor}
 use Rattle.saves.proofs.Streams.{stream-frame, stream-end}
 use Rattle.saves.proofs.Saved.{length-memory-packet, length-word-packet, length-field}
@@ -26,33 +26,33 @@ module _ (tag : ℕ) (content l : List ℕ) (fits : length content < 65536) wher
   head-length : 3 ≡ length head
   head-length = ap suc (sym (length-big 2 (length content)))
 
-  parts : field tag content ++ l ≡ head ++ (content ++ l)
-  unfolding field
+  parts : saveField tag content ++ l ≡ head ++ (content ++ l)
+  unfolding saveField
   parts = ap (λ (t : List ℕ). tag ∷ t) (append-assoc (bigBytes 2 (length content)) content l)
 
-  pub field-length : lengthOf (field tag content ++ l) ≡ length content
-  unfolding field bigAt bigBytes
+  pub field-length : lengthOf (saveField tag content ++ l) ≡ length content
+  unfolding saveField bigAt bigBytes
   field-length = omega arith
 
-  pub field-content : contentOf (field tag content ++ l) ≡ content
+  pub field-content : contentOf (saveField tag content ++ l) ≡ content
   unfolding contentOf
   field-content = rw (field-length, parts) (part-between head content l 3 (length content) head-length refl)
 
-  pub field-behind : behind (field tag content ++ l) ≡ l
+  pub field-behind : behind (saveField tag content ++ l) ≡ l
   unfolding behind
   field-behind = rw (field-length, parts, ← append-assoc) (drop-at (head ++ content) l (3 + length content) (rw (length-append, ← head-length)))
 
-  pub field-tag : tagOf (field tag content ++ l) ≡ tag
-  unfolding tagOf field
+  pub field-tag : tagOf (saveField tag content ++ l) ≡ tag
+  unfolding tagOf saveField
   field-tag =
-      let n : length (field tag content ++ l) ≡ 3 + length content + length l = rw (length-append, length-field) in
+      let n : length (saveField tag content ++ l) ≡ 3 + length content + length l = rw (length-append, length-field) in
       sym (above _ _ _ _ _ (omega arith) (above _ _ _ _ _ (omega (arith, field-length)) refl))
 
-pub stream-field : (p l : List ℕ) → length p ≤ 254 → streamOf (frameField p ++ l) ≡ before (frameOf p) (streamOf l)
+pub stream-field : (p l : List ℕ) → length p ≤ 254 → streamOf (frameField p ++ l) ≡ withFrame (frameOf p) (streamOf l)
 unfolding frameField
 stream-field p l h =
     let fits : length (frameOf p) < 65536 = omega (arith, length-frame p) in
-    let f = field 0x10 (frameOf p) ++ l in
+    let f = saveField 0x10 (frameOf p) ++ l in
     stream-frame f (field-tag 0x10 (frameOf p) l fits) ∙ rw (field-content 0x10 (frameOf p) l fits, field-behind 0x10 (frameOf p) l fits)
 
 -- so many frames, and what is read behind them
@@ -67,8 +67,8 @@ end-stream : (n : ℕ) → streamOf (endField n) ≡ stream [] (endField n)
 unfolding endField
 end-stream n =
     let fits : length (bigBytes 4 n) < 65536 = omega (arith, length-big 4 n) in
-    let tag : tagOf (field 0x7F (bigBytes 4 n)) ≡ 0x7F = rw append-nil at (field-tag 0x7F (bigBytes 4 n) [] fits) in
-    stream-end (field 0x7F (bigBytes 4 n)) (λ h. omega arith)
+    let tag : tagOf (saveField 0x7F (bigBytes 4 n)) ≡ 0x7F = rw append-nil at (field-tag 0x7F (bigBytes 4 n) [] fits) in
+    stream-end (saveField 0x7F (bigBytes 4 n)) (λ h. omega arith)
 
 -- the frames of the EEPROM's blocks, those of the words, and the last field
 pub save-stream : (m : Memory) → streamOf (fieldsFor m) ≡ stream (framesFor m) (endField (blocks (length (m .eeprom)) + length (m .settings)))

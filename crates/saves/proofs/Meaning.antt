@@ -7,23 +7,23 @@ use Rattle.octets.specs.Outcome.{Outcome, accepted, refused, onAccepted}
 use Rattle.octets.proofs.Choosing.{either-lt, either-eq, refused-accepted, accepted-refused}
 use Rattle.octets.proofs.Outcomes.{same-value}
 use Rattle.octets.proofs.Parts.{part-rest}
-use Rattle.processor.specs.Memory.{Write, bytes, word}
+use Rattle.processor.specs.Memory.{Store, toEeprom, toSettings}
 use Rattle.processor.specs.Change.{writesIn}
-use Rattle.processor.specs.declared.write.Change.{Change}
+use Rattle.processor.specs.declared.change.Change.{Change}
 use Rattle.saves.specs.Means.{memoryMeans, wordMeans, packetMeans, inPacket}
 use Rattle.saves.specs.Stored.{orNothing}
 
 module _ (p : List ℕ) where
-  abbrev Makes : Outcome Write → Type 0
+  abbrev Makes : Outcome Store → Type 0
   Makes o = (c : Change) → accepted c ≡ onAccepted (inPacket p) o → writesIn p c ≡ orNothing o
 
   never : (k : ℕ) → Makes (refused k)
   never k c h = absurd (accepted-refused h)
 
-  of-memory : (a : ℕ) → Makes (accepted (bytes a (drop 3 p)))
-  of-memory a c h = ap (writesIn p) (same-value h) ∙ ap (λ (b : List ℕ). bytes a b ∷ []) (part-rest p 3)
+  of-memory : (a : ℕ) → Makes (accepted (toEeprom a (drop 3 p)))
+  of-memory a c h = ap (writesIn p) (same-value h) ∙ ap (λ (b : List ℕ). toEeprom a b ∷ []) (part-rest p 3)
 
-  of-word : (a w : ℕ) → Makes (accepted (word a w))
+  of-word : (a w : ℕ) → Makes (accepted (toSettings a w))
   of-word a w c h = ap (writesIn p) (same-value h)
 
   module _ (e s : ℕ) where
@@ -38,6 +38,6 @@ module _ (p : List ℕ) where
         (λ h. never _)))
 
 -- and one that means none writes nothing
-pub none-writes : (p : List ℕ) (o : Outcome Write) {k : ℕ} → refused k ≡ onAccepted (inPacket p) o → [] ≡ orNothing o
+pub none-writes : (p : List ℕ) (o : Outcome Store) {k : ℕ} → refused k ≡ onAccepted (inPacket p) o → [] ≡ orNothing o
 none-writes p (accepted w) h = absurd (refused-accepted h)
 none-writes p (refused j) h = refl

@@ -8,10 +8,10 @@ use lib.ListN.{length, take, drop, length-append, length-take, length-drop, drop
 use lib.Seq.{take-at, drop-at, drop-drop, drop-cons, take-add, take-all, length-take-le}
 use Rattle.octets.specs.Over.{over, overAt}
 use Rattle.octets.specs.Number.{at}
-use Rattle.processor.specs.Memory.{Memory, memory, Write, putAt, put, store}
+use Rattle.processor.specs.Memory.{Memory, memory, Store, putAt, storeOne, store}
 use Rattle.octets.proofs.Overlay.{put-inside}
 use Rattle.saves.specs.Save.{blocks}
-use Rattle.saves.specs.Writes.{each, blockWrite, wordWrite, writesFor}
+use Rattle.saves.specs.Writes.{each, blockStore, wordStore, writesFor}
 
 -- ---- writes in rising order
 drop-min : (n : ℕ) (l : List ℕ) → drop (min n (length l)) l ≡ drop n l
@@ -37,30 +37,30 @@ module _ (l l′ : List ℕ) (long : length l′ ≡ length l) where
   front-all : (n : ℕ) → length l ≤ n → front n ≡ l
   front-all n h = rw (take-all n l h, drop-of-length-le l′ {i = n} (omega arith), append-nil)
 
-pub store-append : (a b : List Write) (m : Memory) → store (a ++ b) m ≡ store b (store a m)
+pub store-append : (a b : List Store) (m : Memory) → store (a ++ b) m ≡ store b (store a m)
 store-append [] b m = refl
-store-append (w ∷ a) b m = store-append a b (put w m)
+store-append (w ∷ a) b m = store-append a b (storeOne w m)
 
 module _ (m m′ : Memory) (e-same : length (m′ .eeprom) ≡ length (m .eeprom)) (s-same : length (m′ .settings) ≡ length (m .settings)) where
-  blocks-stored : (k : ℕ) → k ≤ blocks (length (m .eeprom)) → store (each (blockWrite (m .eeprom)) k) m′ ≡ memory (front (m .eeprom) (m′ .eeprom) e-same (32 * k)) (m′ .settings)
+  blocks-stored : (k : ℕ) → k ≤ blocks (length (m .eeprom)) → store (each (blockStore (m .eeprom)) k) m′ ≡ memory (front (m .eeprom) (m′ .eeprom) e-same (32 * k)) (m′ .settings)
   unfolding each blocks
   blocks-stored zero h = refl
   blocks-stored (suc k) h =
       let next : 32 * suc k ≡ 32 * k + 32 = omega arith in
-      rw (store-append (each (blockWrite (m .eeprom)) k) (blockWrite (m .eeprom) k ∷ []) m′, blocks-stored k (omega arith), front-more (m .eeprom) (m′ .eeprom) e-same (32 * k) 32 (omega arith), next)
+      rw (store-append (each (blockStore (m .eeprom)) k) (blockStore (m .eeprom) k ∷ []) m′, blocks-stored k (omega arith), front-more (m .eeprom) (m′ .eeprom) e-same (32 * k) 32 (omega arith), next)
 
-  words-stored : (eeprom : List ℕ) (k : ℕ) → k ≤ length (m .settings) → store (each (wordWrite (m .settings)) k) (memory eeprom (m′ .settings)) ≡ memory eeprom (front (m .settings) (m′ .settings) s-same k)
+  words-stored : (eeprom : List ℕ) (k : ℕ) → k ≤ length (m .settings) → store (each (wordStore (m .settings)) k) (memory eeprom (m′ .settings)) ≡ memory eeprom (front (m .settings) (m′ .settings) s-same k)
   unfolding each
   words-stored eeprom zero h = refl
   words-stored eeprom (suc k) h =
       let w = m .settings in
       let one : at w k ∷ [] ≡ take 1 (drop k w) = rw (drop-cons w k 0 h) in
       let next : suc k ≡ k + 1 = omega arith in
-      rw (store-append (each (wordWrite w) k) (wordWrite w k ∷ []) (memory eeprom (m′ .settings)), words-stored eeprom k (omega arith), one, front-more w (m′ .settings) s-same k 1 (omega arith), next)
+      rw (store-append (each (wordStore w) k) (wordStore w k ∷ []) (memory eeprom (m′ .settings)), words-stored eeprom k (omega arith), one, front-more w (m′ .settings) s-same k 1 (omega arith), next)
 
   pub stored-whole : store (writesFor m) m′ ≡ m
   unfolding blocks
   stored-whole =
       let e = length (m .eeprom) in
       let s = length (m .settings) in
-      rw (store-append (each (blockWrite (m .eeprom)) (blocks e)) (each (wordWrite (m .settings)) s) m′, blocks-stored (blocks e) (omega arith), front-all (m .eeprom) (m′ .eeprom) e-same (32 * blocks e) (omega arith), words-stored (m .eeprom) s (omega arith), front-all (m .settings) (m′ .settings) s-same s (omega arith))
+      rw (store-append (each (blockStore (m .eeprom)) (blocks e)) (each (wordStore (m .settings)) s) m′, blocks-stored (blocks e) (omega arith), front-all (m .eeprom) (m′ .eeprom) e-same (32 * blocks e) (omega arith), words-stored (m .eeprom) s (omega arith), front-all (m .settings) (m′ .settings) s-same s (omega arith))

@@ -12,8 +12,8 @@ use Rattle.octets.specs.Outcome.{accepted}
 use Rattle.octets.specs.Number.{at, bigAt, bigBytes}
 use Rattle.octets.proofs.Choosing.{above, same}
 use Rattle.octets.proofs.InBytes.{big-behind, big-back}
-use Rattle.processor.specs.Memory.{Memory, wronglySized}
-use Rattle.saves.specs.Save.{field, shapeField, endField, blocks, fieldsFor, saveOf, room}
+use Rattle.processor.specs.Memory.{Memory, oversized}
+use Rattle.saves.specs.Save.{saveField, shapeField, endField, blocks, fieldsFor, saveOf, room}
 use Rattle.saves.specs.Stream.{lengthOf, shape, shapeOf, endOf}
 use Rattle.saves.specs.Replay.{fieldsMean, judgedOf, judgedFor, replayOf}
 use Rattle.saves.specs.Writes.{Words, each, writesFor}
@@ -27,7 +27,7 @@ four-back : (a : List ℕ) (n : ℕ) (t : List ℕ) → n < 2 ^ 32 → bigAt 4 (
 four-back a n t h = rw add-zero at (big-behind a (bigBytes 4 n ++ t) 4 0) ∙ big-back 4 n t ∙ mod-eq-of-lt h
 
 shape-read : (e s : ℕ) (l : List ℕ) → e ≤ 65536 → s ≤ 65536 → shapeOf (shapeField e s ++ l) ≡ accepted (shape e s)
-unfolding shapeOf shapeField field bigBytes
+unfolding shapeOf shapeField saveField bigBytes
 shape-read e s l h g =
     let f : List ℕ = shapeField e s ++ l in
     let first : bigAt 4 f 3 ≡ e = four-back (0x01 ∷ 0 ∷ 8 ∷ []) e (bigBytes 4 s ++ l) (omega arith) in
@@ -36,7 +36,7 @@ shape-read e s l h g =
     sym (above _ _ _ _ _ (omega arith) (same _ _ _ _ _ refl (same _ _ _ _ _ eight (rw (first, second)))))
 
 end-read : (n : ℕ) → n < 2 ^ 32 → endOf n (endField n) ≡ accepted tt
-unfolding endOf endField field bigBytes
+unfolding endOf endField saveField bigBytes
 end-read n h =
     let four : lengthOf (endField n) ≡ 4 = field-length 0x7F (bigBytes 4 n) [] (lit< tt) in
     sym (same _ _ _ _ _ refl (same _ _ _ _ _ refl (same _ _ _ _ _ four (same _ _ _ _ _ (four-back (0x7F ∷ 0 ∷ 4 ∷ []) n [] h) refl))))
@@ -59,7 +59,7 @@ module _ (m : Memory) (few : length (m .eeprom) ≤ 65536) (words-few : length (
       let n : length (writesFor m) ≡ blocks e + s = rw (length-append, length-each, length-each) (omega arith) in
       rw (save-stream m, saved-writes m few words-few words, n, end-read (blocks e + s) (omega arith))
 
-  sized : (m′ : Memory) → length (m′ .eeprom) ≡ e → length (m′ .settings) ≡ s → wronglySized m′ ≡ false
+  sized : (m′ : Memory) → length (m′ .eeprom) ≡ e → length (m′ .settings) ≡ s → oversized m′ ≡ false
   sized m′ h g = sym (above _ _ _ _ _ (omega arith) (above _ _ _ _ _ (omega arith) refl))
 
   pub judged-sound : judgedFor e s (saveOf m) ≡ accepted (record { shape = shape e s; writes = writesFor m })

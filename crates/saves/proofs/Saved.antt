@@ -20,10 +20,10 @@ use Rattle.packet.proofs.Frames.{length-frame}
 use Rattle.fields.specs.Addr.{addrOf, addrBytes}
 use Rattle.fields.specs.Row.{packetOf, anyOf, encodedOf}
 use Rattle.fields.specs.declared.value.Value.the-variants.{Unknown}
-use Rattle.commands.specs.Encode.{rowOf}
+use Rattle.commands.specs.Encode.{commandRow}
 use Rattle.commands.specs.declared.Commands.the-variants.{WriteMemory, Write}
 use Rattle.processor.specs.Memory.{Memory, tooLarge}
-use Rattle.saves.specs.Save.{field, shapeField, frameField, blockAt, memoryPacket, wordPacket, rising, endField, blocks, fieldsFor, saveOf, room}
+use Rattle.saves.specs.Save.{saveField, shapeField, frameField, blockAt, memoryPacket, wordPacket, rising, endField, blocks, fieldsFor, saveOf, room}
 
 -- ---- the packets
 -- a place that runs to the end has all that is left
@@ -46,7 +46,7 @@ module _ (eeprom : List ℕ) (k : ℕ) where
   pub length-memory-packet : length (memoryPacket eeprom k) ≡ 3 + min 32 (length eeprom - 32 * k)
   length-memory-packet = rw (memory-packet, length-append, length-big, length-take, length-drop) (omega arith)
 
-  pub memory-accepted : 32 * k ≤ length eeprom → encodedOf eeprom (rowOf (WriteMemory (32 * k) (blockAt (length eeprom) k)) []) ≡ accepted (memoryPacket eeprom k)
+  pub memory-accepted : 32 * k ≤ length eeprom → encodedOf eeprom (commandRow (WriteMemory (32 * k) (blockAt (length eeprom) k)) []) ≡ accepted (memoryPacket eeprom k)
   unfolding encodedOf anyOf memoryPacket
   memory-accepted h =
       let e : ℕ = length eeprom in
@@ -60,15 +60,15 @@ module _ (settings : List ℕ) (k : ℕ) where
   pub length-word-packet : length (wordPacket settings k) ≡ 8
   length-word-packet = rw (word-packet, length-append, length-big, length-little)
 
-  pub word-accepted : encodedOf (littleBytes 4 (at settings k)) (rowOf (Write (addrOf k 3 true) (Unknown (placeAt 0 4))) []) ≡ accepted (wordPacket settings k)
+  pub word-accepted : encodedOf (littleBytes 4 (at settings k)) (commandRow (Write (addrOf k 3 true) (Unknown (placeAt 0 4))) []) ≡ accepted (wordPacket settings k)
   unfolding encodedOf anyOf ifEq wordPacket
   word-accepted =
       let b : List ℕ = littleBytes 4 (at settings k) in
       rw (← is-inside (placeAt 0 4) (length b) (omega (arith, length-little 4 (at settings k)))) (sym (above _ _ _ _ _ (omega (arith, length-word-packet)) refl))
 
 -- ---- how long its parts are
-pub length-field : (tag : ℕ) (content : List ℕ) → length (field tag content) ≡ 3 + length content
-unfolding field
+pub length-field : (tag : ℕ) (content : List ℕ) → length (saveField tag content) ≡ 3 + length content
+unfolding saveField
 length-field tag content = rw (length-append, length-big) (omega arith)
 
 pub length-shape : (e s : ℕ) → length (shapeField e s) ≡ 11
@@ -129,8 +129,8 @@ module _ (m : Memory) where
   in-front out = take-at (saveOf m) (drop (length (saveOf m)) out) (length (saveOf m)) refl
 
 -- ---- a field as it is put: its head, then its content
-pub field-parts : (tag n : ℕ) (content : List ℕ) → n ≡ length content → (tag ∷ bigBytes 2 n) ++ content ≡ field tag content
-unfolding field
+pub field-parts : (tag n : ℕ) (content : List ℕ) → n ≡ length content → (tag ∷ bigBytes 2 n) ++ content ≡ saveField tag content
+unfolding saveField
 field-parts tag n content e = rw e
 
 module _ (tag n : ℕ) (l : List ℕ) {r : Outcome ℕ} {h o : List ℕ} (is : h ≡ tag ∷ bigBytes 2 n) (put : (r, o) ≡ into h l) where
@@ -138,7 +138,7 @@ module _ (tag n : ℕ) (l : List ℕ) {r : Outcome ℕ} {h o : List ℕ} (is : h
   head-put room = put-over (tag ∷ bigBytes 2 n) l (put ∙ ap (λ (w : List ℕ). into w l) is) (omega (arith, length-big 2 n))
 
   pub field-put : (content : List ℕ) {q : Outcome ℕ} {y : List ℕ} → (q, y) ≡ into content (take (length o - 3) (drop 3 o)) → n ≡ length content → 3 + n ≤ length l
-      → take 3 o ++ (y ++ drop (length o - 3) (drop 3 o)) ≡ over (field tag content) l
+      → take 3 o ++ (y ++ drop (length o - 3) (drop 3 o)) ≡ over (saveField tag content) l
   field-put content wrote e room =
       put-rest (tag ∷ bigBytes 2 n) l (head-put (omega arith)) content 3 wrote (omega (arith, length-big 2 n)) (omega arith) ∙ ap (λ (w : List ℕ). over w l) (field-parts tag n content e)
 

@@ -9,11 +9,11 @@ use Rattle.octets.specs.Refusals.{wrongSizes}
 use Rattle.octets.specs.Choice.{pick, ifEq}
 use Rattle.octets.proofs.Choosing.{was-same, refused-accepted}
 use Rattle.octets.proofs.Outcomes.{then-both, same-value, was-picked}
-use Rattle.processor.specs.Memory.{Memory, Write, store, tooLarge}
+use Rattle.processor.specs.Memory.{Memory, Store, store, tooLarge}
 use Rattle.saves.specs.declared.shape.Shape.{Shape}
 use Rattle.saves.specs.Stream.{contentOf, behind, tagOf, streamOf, endOf, shapeOf}
 use Rattle.saves.specs.Means.{packetMeans, frameMeans, allMean}
-use Rattle.saves.specs.Judged.{sound, receiptOf, packetIn}
+use Rattle.saves.specs.Judged.{noFault, receiptOf, packetIn}
 use Rattle.saves.specs.Replay.{Save, fieldsMean, readFor, judgedOf, judgedFor, storing}
 use Rattle.saves.specs.Stored.{frameWrites, framesWrite}
 use Rattle.saves.proofs.Streams.{stream-frame, stream-end}
@@ -21,7 +21,7 @@ use Rattle.saves.proofs.Judging.{summed, frame-is}
 use Rattle.saves.proofs.Rising.{store-append}
 
 module _ (e s : ℕ) (l : List ℕ) where
-  abbrev left : List Write
+  abbrev left : List Store
   left = framesWrite e s (streamOf l .frames)
 
   pub none-stored : (tagOf l ≡ 0x10 → ⊥) → (m : Memory) → store left m ≡ m
@@ -33,17 +33,17 @@ module _ (e s : ℕ) (l : List ℕ) where
   frame-stored h f is m m′ stored =
       rw (stored, is, stream-frame l h) (sym (store-append (frameWrites e s (contentOf l)) (framesWrite e s (streamOf (behind l) .frames)) m))
 
-abbrev saveOf : Shape → List Write → Save
+abbrev saveOf : Shape → List Store → Save
 saveOf shape writes = record { shape = shape; writes = writes }
 
 -- ---- a sound save's frames write what it means
 module _ (e s : ℕ) where
-  frame-writes : (f : List ℕ) {w : Write} → frameMeans e s f ≡ accepted w → frameWrites e s f ≡ w ∷ []
+  frame-writes : (f : List ℕ) {w : Store} → frameMeans e s f ≡ accepted w → frameWrites e s f ≡ w ∷ []
   frame-writes f h =
       let t = then-both (receiptOf f) (λ u. summed f (packetMeans e s (packetIn f))) (sym (frame-is f e s) ∙ h) in
       let m = was-same _ _ _ _ (t .second) in rw (m .1)
 
-  all-write : (fs : List (List ℕ)) {ws : List Write} → allMean e s fs ≡ accepted ws → framesWrite e s fs ≡ ws
+  all-write : (fs : List (List ℕ)) {ws : List Store} → allMean e s fs ≡ accepted ws → framesWrite e s fs ≡ ws
   all-write [] h = same-value h
   all-write (f ∷ fs) h =
       let t = then-both (frameMeans e s f) (λ w. andThen (allMean e s fs) (λ ws. accepted (w ∷ ws))) h in
@@ -72,8 +72,8 @@ module _ (l : List ℕ) where
       let sh = shaped .value in
       let e = sh .eeprom in
       let s = sh .settings in
-      let read = then-both (fieldsMean e s (drop 11 l)) (λ (ws : List Write). accepted (saveOf sh ws)) (was-picked (tooLarge e s) wrongSizes (readFor sh l) (shaped .second)) in
-      let all = then-both (allMean e s frames) (λ (ws : List Write). andThen (endOf (length ws) (streamOf (drop 11 l) .tail)) (λ u. accepted ws)) (read .first) in
+      let read = then-both (fieldsMean e s (drop 11 l)) (λ (ws : List Store). accepted (saveOf sh ws)) (was-picked (tooLarge e s) wrongSizes (readFor sh l) (shaped .second)) in
+      let all = then-both (allMean e s frames) (λ (ws : List Store). andThen (endOf (length ws) (streamOf (drop 11 l) .tail)) (λ u. accepted ws)) (read .first) in
       let end = then-both (endOf (length (all .value)) (streamOf (drop 11 l) .tail)) (λ u. accepted (all .value)) (all .second) in
       let ws : all .value ≡ read .value = same-value (end .second) in
       let is : saveOf sh (read .value) ≡ save = same-value (read .second) in
@@ -98,16 +98,16 @@ module _ (l : List ℕ) where
   judged-writes : (e s : ℕ) {save : Save} → judgedFor e s l ≡ accepted save → framesWrite e s frames ≡ save .writes
   judged-writes e s h = all-write e s frames (judged-means e s h)
 
-pub replay-stores : (e s : ℕ) (l : List ℕ) (m : Memory) → accepted tt ≡ sound (judgedFor e s l) → (accepted tt, store (framesWrite e s (streamOf (drop 11 l) .frames)) m) ≡ storing m (judgedFor e s l)
+pub replay-stores : (e s : ℕ) (l : List ℕ) (m : Memory) → accepted tt ≡ noFault (judgedFor e s l) → (accepted tt, store (framesWrite e s (streamOf (drop 11 l) .frames)) m) ≡ storing m (judgedFor e s l)
 replay-stores e s l m h = go (judgedFor e s l) refl h
   where
-    go : (o : Outcome Save) → judgedFor e s l ≡ o → accepted tt ≡ sound o → (accepted tt, store (framesWrite e s (streamOf (drop 11 l) .frames)) m) ≡ storing m o
+    go : (o : Outcome Save) → judgedFor e s l ≡ o → accepted tt ≡ noFault o → (accepted tt, store (framesWrite e s (streamOf (drop 11 l) .frames)) m) ≡ storing m o
     go (accepted save) q g = rw (judged-writes l e s q)
     go (refused k) q g = absurd (refused-accepted (sym g))
 
-pub replay-refuses : (e s : ℕ) (l : List ℕ) (m : Memory) {k : ℕ} → refused k ≡ sound (judgedFor e s l) → (refused k, m) ≡ storing m (judgedFor e s l)
+pub replay-refuses : (e s : ℕ) (l : List ℕ) (m : Memory) {k : ℕ} → refused k ≡ noFault (judgedFor e s l) → (refused k, m) ≡ storing m (judgedFor e s l)
 replay-refuses e s l m {k} h = go (judgedFor e s l) h
   where
-    go : (o : Outcome Save) → refused k ≡ sound o → (refused k, m) ≡ storing m o
+    go : (o : Outcome Save) → refused k ≡ noFault o → (refused k, m) ≡ storing m o
     go (accepted save) g = absurd (refused-accepted g)
     go (refused j) g = ap (λ (u : Outcome Unit). (u, m)) g

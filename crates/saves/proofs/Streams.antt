@@ -8,7 +8,7 @@ use lib.ListN.{length, take, drop, length-drop}
 use lib.Seq.{take-all}
 use Rattle.octets.specs.Choice.{ifEq}
 use Rattle.octets.proofs.Choosing.{same, other, either-lt, either-eq}
-use Rattle.saves.specs.Stream.{lengthOf, contentOf, behind, tagOf, Stream, stream, before, streamUpTo, streamOf}
+use Rattle.saves.specs.Stream.{lengthOf, contentOf, behind, tagOf, Stream, stream, withFrame, streamUpTo, streamOf}
 
 -- a field with a tag is whole
 pub tag-whole : (l : List ℕ) {t : ℕ} → tagOf l ≡ suc t → 3 + lengthOf l ≤ length l
@@ -36,17 +36,17 @@ enough zero zero l h g = refl
 enough zero (suc k) l h g = other _ _ _ _ _ (λ e. omega (arith, behind-shorter l e)) refl
 enough (suc n) zero l h g = sym (other _ _ _ _ _ (λ e. omega (arith, behind-shorter l e)) refl)
 enough (suc n) (suc k) l h g =
-    either-eq (λ (s : Stream). s ≡ ifEq (tagOf l) 0x10 (before (contentOf l) (streamUpTo k (behind l))) (stream [] l)) (tagOf l) 0x10 _ _
-    (λ e. let shorter = behind-shorter l e in same _ _ _ _ _ e (ap (before (contentOf l)) (enough n k (behind l) (omega arith) (omega arith))))
+    either-eq (λ (s : Stream). s ≡ ifEq (tagOf l) 0x10 (withFrame (contentOf l) (streamUpTo k (behind l))) (stream [] l)) (tagOf l) 0x10 _ _
+    (λ e. let shorter = behind-shorter l e in same _ _ _ _ _ e (ap (withFrame (contentOf l)) (enough n k (behind l) (omega arith) (omega arith))))
     (λ e. other _ _ _ _ _ e refl)
 
 -- a frame comes first
-pub stream-frame : (l : List ℕ) → tagOf l ≡ 0x10 → streamOf l ≡ before (contentOf l) (streamOf (behind l))
+pub stream-frame : (l : List ℕ) → tagOf l ≡ 0x10 → streamOf l ≡ withFrame (contentOf l) (streamOf (behind l))
 unfolding streamOf streamUpTo
 stream-frame l h =
     let shorter = behind-shorter l h in
     enough (length l) (suc (length l)) l (omega arith) (omega arith)
-    ∙ sym (same _ _ _ _ _ h (ap (before (contentOf l)) (enough (length (behind l)) (length l) (behind l) (omega arith) (omega arith))))
+    ∙ sym (same _ _ _ _ _ h (ap (withFrame (contentOf l)) (enough (length (behind l)) (length l) (behind l) (omega arith) (omega arith))))
 
 -- none comes any more
 pub stream-end : (l : List ℕ) → (tagOf l ≡ 0x10 → ⊥) → streamOf l ≡ stream [] l

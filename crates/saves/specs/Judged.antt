@@ -12,8 +12,8 @@ use Rattle.saves.specs.declared.shape.Shape.{Shape}
 use Rattle.saves.specs.Replay.{Save, readFor}
 
 -- that nothing is refused, and no more
-abbrev pub sound : {A : Type 0} → Outcome A → Outcome Unit
-sound = onAccepted (λ a. tt)
+abbrev pub noFault : {A : Type 0} → Outcome A → Outcome Unit
+noFault = onAccepted (λ a. tt)
 
 -- strict receipt without the checksum
 abbrev pub receiptOf : List ℕ → Outcome Unit
@@ -25,5 +25,5 @@ receiptOf frame =
 abbrev pub packetIn : List ℕ → List ℕ
 packetIn frame = partOf frame (placeAt 1 (lengthByte frame - 1))
 
-abbrev pub sizedOf : Shape → List ℕ → Outcome Save
-sizedOf shape l = pick (tooLarge (shape .eeprom) (shape .settings)) (refused wrongSizes) (readFor shape l)
+abbrev pub judgedSized : Shape → List ℕ → Outcome Save
+judgedSized shape l = pick (tooLarge (shape .eeprom) (shape .settings)) (refused wrongSizes) (readFor shape l)

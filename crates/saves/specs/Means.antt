@@ -12,33 +12,33 @@ use Rattle.octets.specs.declared.Place.{Place}
 use Rattle.packet.specs.Receipt.{strictOf}
 use Rattle.fields.specs.Addr.{addrAt}
 use Rattle.commands.specs.Decode.{r}
-use Rattle.processor.specs.Memory.{Write, bytes, word}
-use Rattle.processor.specs.declared.write.Change.{Change}
-use Rattle.processor.specs.declared.write.Change.the-variants.{Bytes, Word}
+use Rattle.processor.specs.Memory.{Store, toEeprom, toSettings}
+use Rattle.processor.specs.declared.change.Change.{Change}
+use Rattle.processor.specs.declared.change.Change.the-variants.{EepromBytes, SettingsWord}
 use Rattle.saves.specs.declared.means.Meant.{Meant}
 use Rattle.saves.specs.declared.means.Meant.the-variants.{Is, Refused}
 
 -- 7 where the end is beyond E
-abbrev pub memoryMeans : ℕ → List ℕ → Outcome Write
-memoryMeans e p = ifLt e (bigAt 2 p 1 + (length p - 3)) (refused outside) (accepted (bytes (bigAt 2 p 1) (drop 3 p)))
+abbrev pub memoryMeans : ℕ → List ℕ → Outcome Store
+memoryMeans e p = ifLt e (bigAt 2 p 1 + (length p - 3)) (refused outside) (accepted (toEeprom (bigAt 2 p 1) (drop 3 p)))
 
 -- 7 beyond S
-abbrev pub wordMeans : ℕ → List ℕ → Outcome Write
-wordMeans s p = ifLt (addrAt 3 p 1 .val) s (accepted (word (addrAt 3 p 1 .val) (littleAt 4 p 4))) (refused outside)
+abbrev pub wordMeans : ℕ → List ℕ → Outcome Store
+wordMeans s p = ifLt (addrAt 3 p 1 .val) s (accepted (toSettings (addrAt 3 p 1 .val) (littleAt 4 p 4))) (refused outside)
 
 -- "3 for an empty packet, or 04 or 13 with r under 2; any other command, or Write with r not 7: 13; 7"
-unfoldable pub packetMeans : ℕ → ℕ → List ℕ → Outcome Write
+unfoldable pub packetMeans : ℕ → ℕ → List ℕ → Outcome Store
 packetMeans e s p =
     ifLt (length p) 1 (refused ends)
     (ifEq (at p 0) 0x04 (ifLt (r p) 2 (refused ends) (memoryMeans e p))
     (ifEq (at p 0) 0x13 (ifLt (r p) 2 (refused ends) (ifEq (r p) 7 (wordMeans s p) (refused wrongField))) (refused wrongField)))
 
 -- "frame by strict receipt"
-unfoldable pub frameMeans : ℕ → ℕ → List ℕ → Outcome Write
+unfoldable pub frameMeans : ℕ → ℕ → List ℕ → Outcome Store
 frameMeans e s frame = andThen (strictOf frame) (λ (place : Place). packetMeans e s (partOf frame place))
 
 -- "the first fault going forward"
-abbrev pub allMean : ℕ → ℕ → List (List ℕ) → Outcome (List Write)
+abbrev pub allMean : ℕ → ℕ → List (List ℕ) → Outcome (List Store)
 allMean e s [] = accepted []
 allMean e s (frame ∷ frames) = andThen (frameMeans e s frame) (λ w. andThen (allMean e s frames) (λ ws. accepted (w ∷ ws)))
 
@@ -49,6 +49,6 @@ meant (Is change) = accepted change
 meant (Refused k) = refused k
 
 -- the change that a write of the packet p is: its bytes stand behind the first three
-abbrev pub inPacket : List ℕ → Write → Change
-inPacket p (bytes a b) = Bytes a (rest 3 p)
-inPacket p (word a w) = Word a w
+abbrev pub inPacket : List ℕ → Store → Change
+inPacket p (toEeprom a b) = EepromBytes a (rest 3 p)
+inPacket p (toSettings a w) = SettingsWord a w

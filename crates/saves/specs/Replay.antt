@@ -5,23 +5,23 @@ use lib.ListN.{length, drop}
 use Rattle.octets.specs.Refusals.{tooLong, wrongSizes}
 use Rattle.octets.specs.Outcome.{Outcome, accepted, refused, andThen}
 use Rattle.octets.specs.Choice.{pick, ifLt, ifEq}
-use Rattle.processor.specs.Memory.{Memory, Write, store, wronglySized, tooLarge}
+use Rattle.processor.specs.Memory.{Memory, Store, store, oversized, tooLarge}
 use Rattle.saves.specs.Stream.{streamOf, endOf, shapeOf}
 use Rattle.saves.specs.declared.shape.Shape.{Shape}
 use Rattle.saves.specs.Means.{allMean}
 
 -- the writes of the fields behind the first
-unfoldable pub fieldsMean : ℕ → ℕ → List ℕ → Outcome (List Write)
+unfoldable pub fieldsMean : ℕ → ℕ → List ℕ → Outcome (List Store)
 fieldsMean e s l =
-    andThen (allMean e s (streamOf l .frames)) (λ (ws : List Write). andThen (endOf (length ws) (streamOf l .tail)) (λ u. accepted ws))
+    andThen (allMean e s (streamOf l .frames)) (λ (ws : List Store). andThen (endOf (length ws) (streamOf l .tail)) (λ u. accepted ws))
 
 pub record Save : Type 0 where
   pub shape : Shape
-  pub writes : List Write
+  pub writes : List Store
 
 -- the writes of a whole save, for memories of the sizes in its first field
 abbrev pub readFor : Shape → List ℕ → Outcome Save
-readFor shape l = andThen (fieldsMean (shape .eeprom) (shape .settings) (drop 11 l)) (λ (ws : List Write). accepted (record { shape = shape; writes = ws }))
+readFor shape l = andThen (fieldsMean (shape .eeprom) (shape .settings) (drop 11 l)) (λ (ws : List Store). accepted (record { shape = shape; writes = ws }))
 
 -- "judges it against the save's own sizes (over 65,536: 14)"
 unfoldable pub judgedOf : List ℕ → Outcome Save
@@ -39,5 +39,5 @@ storing m (refused k) = (refused k, m)
 -- "Order: 14, 5, then the first fault going forward"
 unfoldable pub replayOf : Memory → List ℕ → Outcome Unit × Memory
 replayOf m l =
-    pick (wronglySized m) (refused wrongSizes, m)
+    pick (oversized m) (refused wrongSizes, m)
     (ifLt 16777216 (length l) (refused tooLong, m) (storing m (judgedFor (length (m .eeprom)) (length (m .settings)) l)))

@@ -14,26 +14,26 @@ use Rattle.packet.specs.Frame.{frameOf}
 use Rattle.fields.specs.Addr.{addrOf}
 use Rattle.fields.specs.Row.{packetOf}
 use Rattle.fields.specs.declared.value.Value.the-variants.{Unknown}
-use Rattle.commands.specs.Encode.{rowOf}
+use Rattle.commands.specs.Encode.{commandRow}
 use Rattle.commands.specs.declared.Commands.{Commands}
 use Rattle.commands.specs.declared.Commands.the-variants.{WriteMemory, Write}
-use Rattle.processor.specs.Memory.{Memory, wronglySized}
+use Rattle.processor.specs.Memory.{Memory, oversized}
 
 -- "Fields: one-byte tag, two-byte length, content; numbers are big-endian."
-unfoldable pub field : ℕ → List ℕ → List ℕ
-field tag content = tag ∷ (bigBytes 2 (length content) ++ content)
+unfoldable pub saveField : ℕ → List ℕ → List ℕ
+saveField tag content = tag ∷ (bigBytes 2 (length content) ++ content)
 
 -- "First 01: E and S, four bytes each."
 unfoldable pub shapeField : ℕ → ℕ → List ℕ
-shapeField e s = field 0x01 (bigBytes 4 e ++ bigBytes 4 s)
+shapeField e s = saveField 0x01 (bigBytes 4 e ++ bigBytes 4 s)
 
 -- "Then tag 10, one frame each"
 unfoldable pub frameField : List ℕ → List ℕ
-frameField packet = field 0x10 (frameOf packet)
+frameField packet = saveField 0x10 (frameOf packet)
 
 -- a command's packet by demand 2's definition; its payload stands in p, and it has no values beside it
 abbrev pub commandPacket : List ℕ → Commands → List ℕ
-commandPacket p command = packetOf p (rowOf command [])
+commandPacket p command = packetOf p (commandRow command [])
 
 -- "WriteMemory of 32 bytes in rising order, the last shorter"
 abbrev pub blockAt : ℕ → ℕ → Place
@@ -53,7 +53,7 @@ rising packet (suc k) = rising packet k ++ frameField (packet k)
 
 -- "Last 7F: four bytes, the count of 10 fields."
 unfoldable pub endField : ℕ → List ℕ
-endField n = field 0x7F (bigBytes 4 n)
+endField n = saveField 0x7F (bigBytes 4 n)
 
 -- ceil(E/32)
 unfoldable pub blocks : ℕ → ℕ
@@ -75,4 +75,4 @@ room e s = 18 + e + 8 * blocks e + 13 * s
 
 -- "Saving checks 14, then 6."
 abbrev pub savedInto : Memory → List ℕ → Outcome ℕ × List ℕ
-savedInto m out = pick (wronglySized m) (refused wrongSizes, out) (into (saveOf m) out)
+savedInto m out = pick (oversized m) (refused wrongSizes, out) (into (saveOf m) out)

@@ -33,12 +33,12 @@ pub record Stream : Type 0 where
 abbrev pub stream : List (List ℕ) → List ℕ → Stream
 stream frames tail = record { frames = frames; tail = tail }
 
-abbrev pub before : List ℕ → Stream → Stream
-before frame s = stream (frame ∷ s .frames) (s .tail)
+abbrev pub withFrame : List ℕ → Stream → Stream
+withFrame frame s = stream (frame ∷ s .frames) (s .tail)
 
 unfoldable pub streamUpTo : ℕ → List ℕ → Stream
 streamUpTo zero l = stream [] l
-streamUpTo (suc n) l = ifEq (tagOf l) 0x10 (before (contentOf l) (streamUpTo n (behind l))) (stream [] l)
+streamUpTo (suc n) l = ifEq (tagOf l) 0x10 (withFrame (contentOf l) (streamUpTo n (behind l))) (stream [] l)
 
 -- each field takes a byte, so that there are no more fields than bytes
 unfoldable pub streamOf : List ℕ → Stream

@@ -4,7 +4,7 @@ use mathlib.Core.List.{List, [], _∷_, _++_}
 use lib.ListN.{length, take, drop}
 use Rattle.octets.specs.Number.{at}
 use Rattle.packet.specs.Frame.{frameOf}
-use Rattle.processor.specs.Memory.{Memory, Write, bytes, word}
+use Rattle.processor.specs.Memory.{Memory, Store, toEeprom, toSettings}
 use Rattle.saves.specs.Save.{memoryPacket, wordPacket, blocks}
 
 -- a list of words
@@ -22,13 +22,13 @@ framesFor m =
     each (λ k. frameOf (memoryPacket (m .eeprom) k)) (blocks (length (m .eeprom)))
     ++ each (λ k. frameOf (wordPacket (m .settings) k)) (length (m .settings))
 
-abbrev pub blockWrite : List ℕ → ℕ → Write
-blockWrite eeprom k = bytes (32 * k) (take 32 (drop (32 * k) eeprom))
+abbrev pub blockStore : List ℕ → ℕ → Store
+blockStore eeprom k = toEeprom (32 * k) (take 32 (drop (32 * k) eeprom))
 
-abbrev pub wordWrite : List ℕ → ℕ → Write
-wordWrite settings k = word k (at settings k)
+abbrev pub wordStore : List ℕ → ℕ → Store
+wordStore settings k = toSettings k (at settings k)
 
-abbrev pub writesFor : Memory → List Write
+abbrev pub writesFor : Memory → List Store
 writesFor m =
-    each (blockWrite (m .eeprom)) (blocks (length (m .eeprom)))
-    ++ each (wordWrite (m .settings)) (length (m .settings))
+    each (blockStore (m .eeprom)) (blocks (length (m .eeprom)))
+    ++ each (wordStore (m .settings)) (length (m .settings))

@@ -6,7 +6,7 @@ ghost use Rattle.packet.specs.Receipt.{packetAt};
 ghost use Rattle.octets.specs.Place.{partOf};
 ghost use Rattle.saves.specs.Stream.{judged};
 ghost use Rattle.saves.specs.Means.{packetMeans};
-ghost use Rattle.saves.specs.Judged.{sound, receiptOf, sizedOf};
+ghost use Rattle.saves.specs.Judged.{noFault, receiptOf, judgedSized};
 ghost use Rattle.saves.specs.Replay.{judgedOf, fieldsMean};
 use crate::means::Meant;
 use crate::means::meaning_of;
@@ -29,7 +29,7 @@ pub fn judge(save: &[u8]) -> Judged
 }
 
 fn judge_sized(shape: Shape, save: &[u8]) -> Judged
-    ensures { λ r. ⌜ judged r ≡ onAccepted (λ s. s .shape) (sizedOf shape (now (save .entry))) ⌝ }
+    ensures { λ r. ⌜ judged r ≡ onAccepted (λ s. s .shape) (judgedSized shape (now (save .entry))) ⌝ }
 {
     if processor::too_large(shape.eeprom, shape.settings) {
         return Judged::Refused(refusal::WRONG_SIZES);
@@ -43,7 +43,7 @@ fn judge_sized(shape: Shape, save: &[u8]) -> Judged
 
 // Goes over the fields and, within, over each frame's bytes, and is left at the first fault.
 fn scan(fields: &[u8], e: usize, s: usize) -> Done
-    ensures { λ r. ⌜ done r ≡ sound (fieldsMean e s (now (fields .entry))) ⌝ }
+    ensures { λ r. ⌜ done r ≡ noFault (fieldsMean e s (now (fields .entry))) ⌝ }
 {
     let mut rest = fields;
     let mut frames = 0;
@@ -61,14 +61,14 @@ fn scan(fields: &[u8], e: usize, s: usize) -> Done
         'bytes: loop {
             if i == len {
                 if sum != number::byte(frame, i) {
-                    break 'fields Done::Refused(refusal::CHECKSUM);
+                    break 'fields Done::Refused(refusal::WRONG_CHECKSUM);
                 }
                 break 'bytes;
             }
             sum = std::num::wrapping_add_u8(sum, number::byte(frame, i));
             i += 1;
         }
-        if let Done::Refused(k) = packet_fault(stream::packet_of(frame), e, s) {
+        if let Done::Refused(k) = packet_fault(stream::packet_in(frame), e, s) {
             break 'fields Done::Refused(k);
         }
         frames += 1;
@@ -95,7 +95,7 @@ fn receipt(frame: &[u8]) -> Done
 }
 
 fn packet_fault(packet: &[u8], e: usize, s: usize) -> Done
-    ensures { λ r. ⌜ done r ≡ sound (packetMeans e s (now (packet .entry))) ⌝ }
+    ensures { λ r. ⌜ done r ≡ noFault (packetMeans e s (now (packet .entry))) ⌝ }
 {
     match meaning_of(packet, e, s) {
         Meant::Is(_) => Done::Done,

@@ -5,7 +5,7 @@ ghost use Rattle.saves.specs.Means.{packetMeans, memoryMeans, wordMeans,
 use fields::addr::Addr;
 use octets::number;
 use octets::refusal;
-use processor::write::Change;
+use processor::change::Change;
 
 // The change that a packet comes to, whose bytes stand in the packet, or the number of its fault.
 pub enum Meant {
@@ -50,7 +50,7 @@ fn memory_means(packet: &[u8], e: usize) -> Meant
     if e - (addr as usize) < data.len {
         return Meant::Refused(refusal::OUTSIDE);
     }
-    Meant::Is(Change::Bytes { addr, data })
+    Meant::Is(Change::EepromBytes { addr, data })
 }
 
 fn word_means(packet: &[u8], s: usize) -> Meant
@@ -61,7 +61,7 @@ fn word_means(packet: &[u8], s: usize) -> Meant
         return Meant::Refused(refusal::OUTSIDE);
     }
     let value = number::little32(packet, 4);
-    Meant::Is(Change::Word {
+    Meant::Is(Change::SettingsWord {
         addr: addr.val,
         value,
     })

@@ -5,7 +5,7 @@ ghost use Rattle.processor.specs.Memory.{memory, store as storeAll};
 ghost use Rattle.octets.specs.Outcome.{done};
 ghost use Rattle.saves.specs.Stream.{streamOf};
 ghost use Rattle.saves.specs.Replay.{judgedFor, replayOf};
-ghost use Rattle.saves.specs.Judged.{sound};
+ghost use Rattle.saves.specs.Judged.{noFault};
 ghost use Rattle.saves.specs.Stored.{framesWrite, frameWrites};
 use crate::LONGEST_SAVE;
 use crate::judge::judge;
@@ -30,7 +30,7 @@ pub fn replay(eeprom: &mut [u8], settings: &mut [u32], save: &[u8]) -> Done
     match judge_for(eeprom.len(), settings.len(), save) {
         Done::Done => {
             let fields = octets::part(save, octets::rest_of(save, stream::FIRST));
-            store(fields, eeprom, settings);
+            store_frames(fields, eeprom, settings);
             Done::Done
         }
         Done::Refused(k) => Done::Refused(k),
@@ -39,7 +39,7 @@ pub fn replay(eeprom: &mut [u8], settings: &mut [u32], save: &[u8]) -> Done
 
 // A save for memories of other sizes is refused before its frames are looked at.
 fn judge_for(e: usize, s: usize, save: &[u8]) -> Done
-    ensures { λ r. ⌜ done r ≡ sound (judgedFor e s (now (save .entry))) ⌝ }
+    ensures { λ r. ⌜ done r ≡ noFault (judgedFor e s (now (save .entry))) ⌝ }
 {
     match shape_of(save) {
         Judged::Sound(shape) => {
@@ -58,7 +58,7 @@ fn judge_for(e: usize, s: usize, save: &[u8]) -> Done
     }
 }
 
-fn store(fields: &[u8], eeprom: &mut [u8], settings: &mut [u32])
+fn store_frames(fields: &[u8], eeprom: &mut [u8], settings: &mut [u32])
     ensures { λ _. ⌜ memory (now (eeprom .exit)) (now (settings .exit)) ≡ storeAll (framesWrite (length (now (eeprom .entry))) (length (now (settings .entry))) (streamOf (now (fields .entry)) .frames)) (memory (now (eeprom .entry)) (now (settings .entry))) ⌝ }
 {
     let mut rest = fields;
@@ -72,9 +72,9 @@ fn store(fields: &[u8], eeprom: &mut [u8], settings: &mut [u32])
 fn store_frame(frame: &[u8], eeprom: &mut [u8], settings: &mut [u32])
     ensures { λ _. ⌜ memory (now (eeprom .exit)) (now (settings .exit)) ≡ storeAll (frameWrites (length (now (eeprom .entry))) (length (now (settings .entry))) (now (frame .entry))) (memory (now (eeprom .entry)) (now (settings .entry))) ⌝ }
 {
-    let packet = stream::packet_of(frame);
+    let packet = stream::packet_in(frame);
     match meaning_of(packet, eeprom.len(), settings.len()) {
-        Meant::Is(change) => processor::write::store(change, packet, eeprom, settings),
+        Meant::Is(change) => processor::change::store(change, packet, eeprom, settings),
         Meant::Refused(_) => {}
     }
 }

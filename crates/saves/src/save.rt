@@ -7,7 +7,7 @@ ghost use Rattle.octets.specs.Number.{bigBytes};
 ghost use Rattle.octets.specs.Outcome.{accepted, written};
 ghost use Rattle.octets.specs.Over.{over, into};
 ghost use Rattle.fields.specs.Row.{packetOf, encodedOf};
-ghost use Rattle.commands.specs.Encode.{rowOf};
+ghost use Rattle.commands.specs.Encode.{commandRow};
 ghost use Rattle.commands.specs.Decode.{noValues};
 ghost use Rattle.processor.specs.Memory.{memory};
 ghost use Rattle.saves.specs.Save.{savedInto, saveOf, shapeField, endField, frameField, memoryPacket, wordPacket, rising};
@@ -47,7 +47,7 @@ fn save_sized(eeprom: &[u8], settings: &[u32], out: &mut [u8]) -> Written
     }
     put_shape(eeprom.len() as u32, settings.len() as u32, out);
     put_blocks(eeprom, blocks, &mut out[11..]);
-    put_words(settings, &mut out[words..]);
+    put_settings(settings, &mut out[words..]);
     put_end((blocks + settings.len()) as u32, &mut out[end..]);
     Written::Bytes(end + 7)
 }
@@ -78,10 +78,10 @@ fn put_end(frames: u32, out: &mut [u8])
 
 // A field with a command's frame, which has len bytes.
 fn put_frame(len: u16, command: Commands, payload: &[u8], out: &mut [u8])
-    requires { ⌜ encodedOf (now payload) (rowOf command noValues) ≡ accepted (packetOf (now payload) (rowOf command noValues)) ⌝ }
-    requires { ⌜ len ≡ length (packetOf (now payload) (rowOf command noValues)) + 2 ⌝ }
+    requires { ⌜ encodedOf (now payload) (commandRow command noValues) ≡ accepted (packetOf (now payload) (commandRow command noValues)) ⌝ }
+    requires { ⌜ len ≡ length (packetOf (now payload) (commandRow command noValues)) + 2 ⌝ }
     requires { ⌜ len + 3 ≤ length (now out) ⌝ }
-    ensures { λ _. ⌜ now (out .exit) ≡ over (frameField (packetOf (now (payload .entry)) (rowOf command noValues))) (now (out .entry)) ⌝ }
+    ensures { λ _. ⌜ now (out .exit) ≡ over (frameField (packetOf (now (payload .entry)) (commandRow command noValues))) (now (out .entry)) ⌝ }
 {
     octets::put(&head(stream::FRAME, len), out);
     command.to_frame(no_values(), payload, &mut out[stream::HEAD..]);
@@ -125,7 +125,7 @@ fn put_blocks(eeprom: &[u8], blocks: usize, out: &mut [u8])
 }
 
 // The k-th word of the settings.
-fn put_word(k: usize, settings: &[u32], out: &mut [u8])
+fn put_setting(k: usize, settings: &[u32], out: &mut [u8])
     requires { ⌜ (k < length (now settings)) × (length (now settings) ≤ 65536) × (13 ≤ length (now out)) ⌝ }
     ensures { λ _. ⌜ now (out .exit) ≡ over (frameField (wordPacket (now (settings .entry)) k)) (now (out .entry)) ⌝ }
 {
@@ -136,13 +136,13 @@ fn put_word(k: usize, settings: &[u32], out: &mut [u8])
     put_frame(10, command, &number::little_bytes32(settings[k]), out);
 }
 
-fn put_words(settings: &[u32], out: &mut [u8])
+fn put_settings(settings: &[u32], out: &mut [u8])
     requires { ⌜ (length (now settings) ≤ 65536) × (13 * length (now settings) ≤ length (now out)) ⌝ }
     ensures { λ _. ⌜ now (out .exit) ≡ over (rising (wordPacket (now (settings .entry))) (length (now (settings .entry)))) (now (out .entry)) ⌝ }
 {
     let mut k = 0;
     while k < settings.len() {
-        put_word(k, settings, &mut out[13 * k..]);
+        put_setting(k, settings, &mut out[13 * k..]);
         k += 1;
     }
 }

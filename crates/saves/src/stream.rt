@@ -69,7 +69,7 @@ pub fn end_of(rest: &[u8], frames: usize) -> Done
 }
 
 // The packet in a frame.
-pub fn packet_of(frame: &[u8]) -> &[u8]
+pub fn packet_in(frame: &[u8]) -> &[u8]
     ensures { λ r. ⌜ now r ≡ packetIn (now (frame .entry)) ⌝ }
 {
     let len = number::byte(frame, 0) as usize;

@@ -7,19 +7,19 @@ use Rattle.device.specs.Execute.{receivedInto}
 use Rattle.processor.specs.declared.Device.{Device}
 use Rattle.tally.specs.declared.Tally.{Tally}
 
-abbrev pub most : ℕ
-most = 0xFFFFFFFF
+abbrev pub mostCounted : ℕ
+mostCounted = 0xFFFFFFFF
 
 abbrev pub tallyOf : ℕ → ℕ → Tally
 tallyOf a r = record { accepted = a; refused = r }
 
-abbrev pub zero : Tally
-zero = tallyOf 0 0
+abbrev pub zeroed : Tally
+zeroed = tallyOf 0 0
 
 -- after one call
 abbrev pub after : {A : Type 0} → Tally → Outcome A → Tally
-after t (accepted a) = tallyOf (min most (t .accepted + 1)) (t .refused)
-after t (refused k) = tallyOf (t .accepted) (min most (t .refused + 1))
+after t (accepted a) = tallyOf (min mostCounted (t .accepted + 1)) (t .refused)
+after t (refused k) = tallyOf (t .accepted) (min mostCounted (t .refused + 1))
 
 -- how many of a history were accepted, and how many refused
 abbrev pub acceptedIn : {A : Type 0} → List (Outcome A) → ℕ

@@ -2,7 +2,7 @@
 ghost use mathlib.Core.Path.{_≡_};
 ghost use Prim.Native.Nat.{_+_, min};
 ghost use Rattle.octets.specs.Outcome.{written};
-ghost use Rattle.tally.specs.Tally.{zero, after};
+ghost use Rattle.tally.specs.Tally.{zeroed, after};
 use octets::Written;
 
 pub mod receive;
@@ -15,7 +15,7 @@ pub struct Tally {
 
 impl Tally {
     pub fn zeroed() -> Self
-        ensures { λ r. ⌜ r ≡ zero ⌝ }
+        ensures { λ r. ⌜ r ≡ zeroed ⌝ }
     {
         Tally {
             accepted: 0,

@@ -17,7 +17,7 @@ use Rattle.octets.specs.Refusals.{outside}
 use Rattle.octets.specs.declared.Place.{Place}
 use Rattle.octets.proofs.Choosing.{if-of}
 use Rattle.octets.proofs.Parts.{length-part}
-use Rattle.views.specs.View.{memory, floats}
+use Rattle.views.specs.View.{viewOfMemory, viewOfFloats}
 use Rattle.views.specs.Reading.{partAt, byteAt, bitsAt, orOutside}
 use Rattle.views.specs.Joining.{memoryFrom, memoryJoin, floatsFrom, floatsJoin}
 use Rattle.views.specs.declared.memory.MemoryView.{MemoryView}
@@ -43,11 +43,11 @@ map-twice bytes s (some p) = rw mul-one
 
 module _ (v w j : MemoryView) (bytes others out left : List ℕ) (accepts : memoryJoin v bytes w others out ≡ (accepted j, left)) where
   abbrev whole : List ℕ
-  whole = take (65535 - v .base) (bothBytes (memory v) bytes (memory w) others)
+  whole = take (65535 - v .base) (bothBytes (viewOfMemory v) bytes (viewOfMemory w) others)
 
-  was : Joined (memoryFrom (v .base)) (memory v) bytes (memory w) others out whole j left
+  was : Joined (memoryFrom (v .base)) (viewOfMemory v) bytes (viewOfMemory w) others out whole j left
   unfolding memoryJoin
-  was = was-joined (take (65535 - v .base)) (memory v) (memory w) bytes others out accepts
+  was = was-joined (take (65535 - v .base)) (viewOfMemory v) (viewOfMemory w) bytes others out accepts
 
   size : length whole ≡ min (65535 - v .base) (v .data .len + w .data .len)
   size = rw (length-take, length-append, length-part bytes (v .data) (was .first), length-part others (w .data) (was .second))
@@ -59,22 +59,22 @@ module _ (v w j : MemoryView) (bytes others out left : List ℕ) (accepts : memo
   unfolding byteAt partAt
   memory-reads addr =
       rw (← was .view, map-twice left 0, map-twice bytes (v .data .start), map-twice others (w .data .start))
-      (reads-joined 1 (memory v) (memory w) (memory (memoryFrom (v .base) (length whole))) bytes others left
+      (reads-joined 1 (viewOfMemory v) (viewOfMemory w) (viewOfMemory (memoryFrom (v .base) (length whole))) bytes others left
       (was .first) (was .second) (omega (arith, left-long was)) (sym (mul-one _)) (sym (mul-one _))
       refl (was .meet) (omega (arith, size, was .low)) (omega (arith, size))
-      (λ p h. left-at was p (omega arith) ∙ getD-take (65535 - v .base) (bothBytes (memory v) bytes (memory w) others) p 0 (omega (arith, size)))
+      (λ p h. left-at was p (omega arith) ∙ getD-take (65535 - v .base) (bothBytes (viewOfMemory v) bytes (viewOfMemory w) others) p 0 (omega (arith, size)))
       at one-byte addr)
 
 module _ (v w j : FloatView) (bytes others out left : List ℕ) (accepts : floatsJoin v bytes w others out ≡ (accepted j, left)) where
   abbrev whole-floats : List ℕ
-  whole-floats = bothBytes (floats v) bytes (floats w) others
+  whole-floats = bothBytes (viewOfFloats v) bytes (viewOfFloats w) others
 
-  was-floats : Joined (floatsFrom (v .base)) (floats v) bytes (floats w) others out whole-floats j left
+  was-floats : Joined (floatsFrom (v .base)) (viewOfFloats v) bytes (viewOfFloats w) others out whole-floats j left
   unfolding floatsJoin
-  was-floats = was-joined (λ all. all) (floats v) (floats w) bytes others out accepts
+  was-floats = was-joined (λ all. all) (viewOfFloats v) (viewOfFloats w) bytes others out accepts
 
   size-floats : length whole-floats ≡ v .count * 4 + w .count * 4
-  size-floats = rw (length-append, length-part bytes (floats v .place) (was-floats .first), length-part others (floats w .place) (was-floats .second))
+  size-floats = rw (length-append, length-part bytes (viewOfFloats v .place) (was-floats .first), length-part others (viewOfFloats w .place) (was-floats .second))
 
   pub floats-count : j .count ≡ v .count + w .count
   floats-count = rw (← was-floats .view) (omega (arith, size-floats))
@@ -84,7 +84,7 @@ module _ (v w j : FloatView) (bytes others out left : List ℕ) (accepts : float
   floats-reads addr =
       rw (← was-floats .view)
       (ap orOutside
-      (reads-joined 4 (floats v) (floats w) (floats (floatsFrom (v .base) (length whole-floats))) bytes others left
+      (reads-joined 4 (viewOfFloats v) (viewOfFloats w) (viewOfFloats (floatsFrom (v .base) (length whole-floats))) bytes others left
       (was-floats .first) (was-floats .second) (omega (arith, left-long was-floats)) refl refl
       refl (was-floats .meet) (omega (arith, size-floats)) (omega (arith, size-floats))
       (λ p h. left-at was-floats p (omega (arith, size-floats)))

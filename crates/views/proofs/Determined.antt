@@ -4,20 +4,20 @@ use mathlib.Core.Path.{_≡_}
 use mathlib.Core.List.{List}
 use denote.Ref.{now}
 use Rattle.octets.proofs.Agree.{Fixes, agree, both}
-use Rattle.views.specs.Reading.{part, byte, word, bits}
+use Rattle.views.specs.Reading.{readPart, readByte, readWord, readBits}
 use Rattle.views.specs.View.{memoryAnswer, floatsAnswer}
-use Rattle.views.specs.declared.Part.{Part}
-use Rattle.views.specs.declared.Part.the-variants.{At, Outside as NoPart}
-use Rattle.views.specs.declared.memory.Byte.{Byte}
-use Rattle.views.specs.declared.memory.Byte.the-variants.{Is as ByteIs, Outside as NoByte}
-use Rattle.views.specs.declared.memory.Word.{Word}
-use Rattle.views.specs.declared.memory.Word.the-variants.{Is as WordIs, Outside as NoWord}
-use Rattle.views.specs.declared.floats.FloatBits.{FloatBits}
-use Rattle.views.specs.declared.floats.FloatBits.the-variants.{Bits, Refused as NoBits}
-use Rattle.views.specs.declared.memory.Answer.{Answer as MemoryAnswer}
-use Rattle.views.specs.declared.memory.Answer.the-variants.{View as Memory, Refused as NoMemory}
-use Rattle.views.specs.declared.floats.Answer.{Answer as FloatsAnswer}
-use Rattle.views.specs.declared.floats.Answer.the-variants.{View as Floats, Refused as NoFloats}
+use Rattle.views.specs.declared.ReadPart.{ReadPart}
+use Rattle.views.specs.declared.ReadPart.the-variants.{At, Outside as NoPart}
+use Rattle.views.specs.declared.memory.ReadByte.{ReadByte}
+use Rattle.views.specs.declared.memory.ReadByte.the-variants.{Is as ByteIs, Outside as NoByte}
+use Rattle.views.specs.declared.memory.ReadWord.{ReadWord}
+use Rattle.views.specs.declared.memory.ReadWord.the-variants.{Is as WordIs, Outside as NoWord}
+use Rattle.views.specs.declared.floats.ReadBits.{ReadBits}
+use Rattle.views.specs.declared.floats.ReadBits.the-variants.{Is, Refused as NoBits}
+use Rattle.views.specs.declared.memory.MemoryAnswer.{MemoryAnswer}
+use Rattle.views.specs.declared.memory.MemoryAnswer.the-variants.{Is as Memory, Refused as NoMemory}
+use Rattle.views.specs.declared.floats.FloatsAnswer.{FloatsAnswer}
+use Rattle.views.specs.declared.floats.FloatsAnswer.the-variants.{Is as Floats, Refused as NoFloats}
 use Rattle.views.proofs.memory.MemoryView.read_at.Reads as read-at
 use Rattle.views.proofs.memory.MemoryView.read_u8.Reads as read-u8
 use Rattle.views.proofs.memory.MemoryView.read_u16.Reads as read-u16
@@ -26,28 +26,28 @@ use Rattle.views.proofs.floats.FloatView.get.Reads as get
 use Rattle.views.proofs.floats.FloatView.extend_with.Reads as floats-extend
 
 -- an answer is known by its reading
-pub part-once : (a b : Part) → part a ≡ part b → a ≡ b
+pub part-once : (a b : ReadPart) → readPart a ≡ readPart b → a ≡ b
 part-once (At p) (At q) e = cc
 part-once (At p) NoPart e = cc
 part-once NoPart (At q) e = cc
 part-once NoPart NoPart e = cc
 
-pub byte-once : (a b : Byte) → byte a ≡ byte b → a ≡ b
+pub byte-once : (a b : ReadByte) → readByte a ≡ readByte b → a ≡ b
 byte-once (ByteIs m) (ByteIs n) e = cc
 byte-once (ByteIs m) NoByte e = cc
 byte-once NoByte (ByteIs n) e = cc
 byte-once NoByte NoByte e = cc
 
-pub word-once : (a b : Word) → word a ≡ word b → a ≡ b
+pub word-once : (a b : ReadWord) → readWord a ≡ readWord b → a ≡ b
 word-once (WordIs m) (WordIs n) e = cc
 word-once (WordIs m) NoWord e = cc
 word-once NoWord (WordIs n) e = cc
 word-once NoWord NoWord e = cc
 
-pub bits-once : (a b : FloatBits) → bits a ≡ bits b → a ≡ b
-bits-once (Bits m) (Bits n) e = cc
-bits-once (Bits m) (NoBits k) e = cc
-bits-once (NoBits k) (Bits n) e = cc
+pub bits-once : (a b : ReadBits) → readBits a ≡ readBits b → a ≡ b
+bits-once (Is m) (Is n) e = cc
+bits-once (Is m) (NoBits k) e = cc
+bits-once (NoBits k) (Is n) e = cc
 bits-once (NoBits j) (NoBits k) e = cc
 
 pub memory-once : (a b : MemoryAnswer) → memoryAnswer a ≡ memoryAnswer b → a ≡ b
@@ -62,16 +62,16 @@ floats-once (Floats v) (NoFloats k) e = cc
 floats-once (NoFloats k) (Floats w) e = cc
 floats-once (NoFloats j) (NoFloats k) e = cc
 
-pub read-at-fixed : Fixes Part read-at.Post (λ κs answer left. answer)
+pub read-at-fixed : Fixes ReadPart read-at.Post (λ κs answer left. answer)
 read-at-fixed κs args a b x y p q = part-once a b (agree p q)
 
-pub read-u8-fixed : Fixes Byte read-u8.Post (λ κs answer left. answer)
+pub read-u8-fixed : Fixes ReadByte read-u8.Post (λ κs answer left. answer)
 read-u8-fixed κs args a b x y p q = byte-once a b (agree p q)
 
-pub read-u16-fixed : Fixes Word read-u16.Post (λ κs answer left. answer)
+pub read-u16-fixed : Fixes ReadWord read-u16.Post (λ κs answer left. answer)
 read-u16-fixed κs args a b x y p q = word-once a b (agree p q)
 
-pub get-fixed : Fixes FloatBits get.Post (λ κs answer left. answer)
+pub get-fixed : Fixes ReadBits get.Post (λ κs answer left. answer)
 get-fixed κs args a b x y p q = bits-once a b (agree p q)
 
 pub memory-extend-fixed : Fixes (MemoryAnswer × List ℕ) memory-extend.Post (λ κs answer left. (answer, now (left .1 .1 .1 .1 .0)))

@@ -4,13 +4,13 @@ use mathlib.Core.Path.{_≡_, sym, ap, _∙_}
 use mathlib.Core.Bool.{Bool, false}
 use mathlib.Core.Option.{none, some}
 use native.Mathlib.Omega.{arith}
-use Rattle.octets.specs.Place.{placeAt, outsideOf}
+use Rattle.octets.specs.Place.{placeAt, isOutside}
 use Rattle.octets.specs.declared.Place.{Place}
 use Rattle.octets.proofs.Choosing.{passed}
 use Rattle.octets.proofs.Parts.{found-inside}
-use Rattle.views.specs.Reading.{part, viewPart}
-use Rattle.views.specs.declared.Part.{Part}
-use Rattle.views.specs.declared.Part.the-variants.{At}
+use Rattle.views.specs.Reading.{readPart, viewPart}
+use Rattle.views.specs.declared.ReadPart.{ReadPart}
+use Rattle.views.specs.declared.ReadPart.the-variants.{At}
 
 pub none-some : {A : Type 0} {v : A} → none ≡ some v → ⊥
 none-some e = let z : _≡_ {A = ℕ} 0 1 = cc in omega arith
@@ -25,8 +25,8 @@ module _ (base count addr len : ℕ) {p : Place} where
       (low .0, high .0, at)
 
   -- the same of an answer `At p` of the code, from a view whose place it found inside
-  pub found-held : (place : Place) (have : ℕ) {r : Bool} {a : Part} → r ≡ outsideOf place have → r ≡ false → a ≡ At p → part a ≡ viewPart base count addr len
+  pub found-held : (place : Place) (have : ℕ) {r : Bool} {a : ReadPart} → r ≡ isOutside place have → r ≡ false → a ≡ At p → readPart a ≡ viewPart base count addr len
       → (place .start + place .len ≤ have) × (p .start + p .len ≤ count)
   found-held place have e h at f =
-      let found = found-part (sym f ∙ ap part at) in
+      let found = found-part (sym f ∙ ap readPart at) in
       (found-inside place have e h, rw (← found .2) (omega arith))

@@ -7,7 +7,7 @@ use Rattle.octets.specs.Outcome.{Outcome, accepted, refused, onAccepted}
 use Rattle.octets.specs.Choice.{ifLt, ifEq}
 use Rattle.octets.specs.Over.{into}
 use Rattle.octets.specs.Place.{placeAt, partOf}
-use Rattle.views.specs.View.{View, memory, floats, ifOutside}
+use Rattle.views.specs.View.{View, viewOfMemory, viewOfFloats, ifOutside}
 use Rattle.views.specs.declared.memory.MemoryView.{MemoryView}
 use Rattle.views.specs.declared.floats.FloatView.{FloatView}
 
@@ -37,8 +37,8 @@ floatsFrom base n = record { base = base; start = 0; count = n / 4 }
 -- "a memory view keeps only the first 65,535 - base bytes"
 unfoldable pub memoryJoin : MemoryView → List ℕ → MemoryView → List ℕ → List ℕ → Outcome MemoryView × List ℕ
 memoryJoin v bytes w others out =
-    viewed (memoryFrom (v .base)) (joinInto (take (65535 - v .base)) (memory v) bytes (memory w) others out)
+    viewed (memoryFrom (v .base)) (joinInto (take (65535 - v .base)) (viewOfMemory v) bytes (viewOfMemory w) others out)
 
 -- and a float view all
 unfoldable pub floatsJoin : FloatView → List ℕ → FloatView → List ℕ → List ℕ → Outcome FloatView × List ℕ
-floatsJoin v bytes w others out = viewed (floatsFrom (v .base)) (joinInto (λ all. all) (floats v) bytes (floats w) others out)
+floatsJoin v bytes w others out = viewed (floatsFrom (v .base)) (joinInto (λ all. all) (viewOfFloats v) bytes (viewOfFloats w) others out)

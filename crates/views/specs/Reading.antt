@@ -9,35 +9,35 @@ use Rattle.octets.specs.Choice.{ifLt}
 use Rattle.octets.specs.Number.{at, bigAt, littleAt}
 use Rattle.octets.specs.Place.{placeAt}
 use Rattle.octets.specs.declared.Place.{Place}
-use Rattle.views.specs.View.{View, memory, floats, ifOutside}
+use Rattle.views.specs.View.{View, viewOfMemory, viewOfFloats, ifOutside}
 use Rattle.views.specs.declared.memory.MemoryView.{MemoryView}
 use Rattle.views.specs.declared.floats.FloatView.{FloatView}
-use Rattle.views.specs.declared.Part.{Part}
-use Rattle.views.specs.declared.Part.the-variants.{At, Outside as PartOutside}
-use Rattle.views.specs.declared.memory.Byte.{Byte}
-use Rattle.views.specs.declared.memory.Byte.the-variants.{Is as ByteIs, Outside as ByteOutside}
-use Rattle.views.specs.declared.memory.Word.{Word}
-use Rattle.views.specs.declared.memory.Word.the-variants.{Is as WordIs, Outside as WordOutside}
-use Rattle.views.specs.declared.floats.FloatBits.{FloatBits}
-use Rattle.views.specs.declared.floats.FloatBits.the-variants.{Bits, Refused}
+use Rattle.views.specs.declared.ReadPart.{ReadPart}
+use Rattle.views.specs.declared.ReadPart.the-variants.{At, Outside as PartOutside}
+use Rattle.views.specs.declared.memory.ReadByte.{ReadByte}
+use Rattle.views.specs.declared.memory.ReadByte.the-variants.{Is as ByteIs, Outside as ByteOutside}
+use Rattle.views.specs.declared.memory.ReadWord.{ReadWord}
+use Rattle.views.specs.declared.memory.ReadWord.the-variants.{Is as WordIs, Outside as WordOutside}
+use Rattle.views.specs.declared.floats.ReadBits.{ReadBits}
+use Rattle.views.specs.declared.floats.ReadBits.the-variants.{Is, Refused}
 
 -- an answer that may be "none"
-abbrev pub part : Part → Option Place
-part (At place) = some place
-part PartOutside = none
+abbrev pub readPart : ReadPart → Option Place
+readPart (At place) = some place
+readPart PartOutside = none
 
-abbrev pub byte : Byte → Option ℕ
-byte (ByteIs b) = some b
-byte ByteOutside = none
+abbrev pub readByte : ReadByte → Option ℕ
+readByte (ByteIs b) = some b
+readByte ByteOutside = none
 
-abbrev pub word : Word → Option ℕ
-word (WordIs n) = some n
-word WordOutside = none
+abbrev pub readWord : ReadWord → Option ℕ
+readWord (WordIs n) = some n
+readWord WordOutside = none
 
 -- a float's pattern, or the paper's number
-abbrev pub bits : FloatBits → Outcome ℕ
-bits (Bits n) = accepted n
-bits (Refused k) = refused k
+abbrev pub readBits : ReadBits → Outcome ℕ
+readBits (Is n) = accepted n
+readBits (Refused k) = refused k
 
 -- "Memory view part: none if addr < base, or addr + len > base + view length; else that part", as a place in the view
 abbrev pub viewPart : ℕ → ℕ → ℕ → ℕ → Option Place
@@ -49,7 +49,7 @@ partIn v bytes addr len = ifOutside v bytes none (viewPart (v .base) (v .len) ad
 
 -- "that part of the caller's bytes"
 unfoldable pub partAt : MemoryView → List ℕ → ℕ → ℕ → Option Place
-partAt v bytes addr len = Option·map (λ (p : Place). placeAt (v .data .start + p .start) (p .len)) (partIn (memory v) bytes addr len)
+partAt v bytes addr len = Option·map (λ (p : Place). placeAt (v .data .start + p .start) (p .len)) (partIn (viewOfMemory v) bytes addr len)
 
 unfoldable pub byteAt : MemoryView → List ℕ → ℕ → Option ℕ
 byteAt v bytes addr = Option·map (λ (p : Place). at bytes (p .start)) (partAt v bytes addr 1)
@@ -64,4 +64,4 @@ orOutside none = refused outside
 -- the pattern of the float at an address: its four bytes, the least significant first
 unfoldable pub bitsAt : FloatView → List ℕ → ℕ → Outcome ℕ
 bitsAt v bytes addr =
-    orOutside (Option·map (λ (p : Place). littleAt 4 bytes (v .start + p .start * 4)) (partIn (floats v) bytes addr 1))
+    orOutside (Option·map (λ (p : Place). littleAt 4 bytes (v .start + p .start * 4)) (partIn (viewOfFloats v) bytes addr 1))

@@ -8,10 +8,10 @@ use Rattle.octets.specs.Place.{floatsAt}
 use Rattle.octets.specs.declared.Place.{Place}
 use Rattle.views.specs.declared.memory.MemoryView.{MemoryView}
 use Rattle.views.specs.declared.floats.FloatView.{FloatView}
-use Rattle.views.specs.declared.memory.Answer.{Answer as MemoryAnswer}
-use Rattle.views.specs.declared.memory.Answer.the-variants.{View as MemoryIs, Refused as MemoryRefused}
-use Rattle.views.specs.declared.floats.Answer.{Answer as FloatsAnswer}
-use Rattle.views.specs.declared.floats.Answer.the-variants.{View as FloatsIs, Refused as FloatsRefused}
+use Rattle.views.specs.declared.memory.MemoryAnswer.{MemoryAnswer}
+use Rattle.views.specs.declared.memory.MemoryAnswer.the-variants.{Is as MemoryIs, Refused as MemoryRefused}
+use Rattle.views.specs.declared.floats.FloatsAnswer.{FloatsAnswer}
+use Rattle.views.specs.declared.floats.FloatsAnswer.the-variants.{Is as FloatsIs, Refused as FloatsRefused}
 
 -- what the paper says of either kind: "base", "view length", and "a view's place" in "its bytes"
 pub record View : Type 0 where
@@ -20,12 +20,12 @@ pub record View : Type 0 where
   pub place : Place
 
 -- a memory view's length counts its bytes
-abbrev pub memory : MemoryView → View
-memory v = record { base = v .base; len = v .data .len; place = v .data }
+abbrev pub viewOfMemory : MemoryView → View
+viewOfMemory v = record { base = v .base; len = v .data .len; place = v .data }
 
 -- and a float view's its floats, of four bytes each
-abbrev pub floats : FloatView → View
-floats v = record { base = v .base; len = v .count; place = floatsAt (v .start) (v .count) }
+abbrev pub viewOfFloats : FloatView → View
+viewOfFloats v = record { base = v .base; len = v .count; place = floatsAt (v .start) (v .count) }
 
 -- x where "a view's place outside its bytes", else y
 abbrev pub ifOutside : {A : Type 0} → View → List ℕ → A → A → A

@@ -2,11 +2,11 @@
 ghost use mathlib.Core.Path.{_≡_};
 ghost use Prim.Native.Nat.{_*_, _≤_};
 ghost use Rattle.octets.specs.Outcome.{written, onAccepted};
-ghost use Rattle.octets.specs.Place.{outsideOf};
-ghost use Rattle.views.specs.View.{floats, floatsAnswer};
-ghost use Rattle.views.specs.Reading.{bits, bitsAt};
+ghost use Rattle.octets.specs.Place.{isOutside};
+ghost use Rattle.views.specs.View.{viewOfFloats, floatsAnswer};
+ghost use Rattle.views.specs.Reading.{readBits, bitsAt};
 ghost use Rattle.views.specs.Joining.{floatsFrom, floatsJoin};
-use crate::Part;
+use crate::ReadPart;
 use crate::join;
 use crate::view_part;
 use octets::Place;
@@ -21,34 +21,34 @@ pub struct FloatView {
     pub count: usize,
 }
 
-pub enum FloatBits {
-    Bits(u32),
+pub enum ReadBits {
+    Is(u32),
     Refused(u8),
 }
 
 // A view, or the number of the refusal.
-pub enum Answer {
-    View(FloatView),
+pub enum FloatsAnswer {
+    Is(FloatView),
     Refused(u8),
 }
 
 // The joined bytes, which stand at the start of out, as a view.
-fn joined_floats(base: u16, answer: Written) -> Answer
+fn joined_floats(base: u16, answer: Written) -> FloatsAnswer
     ensures { λ r. ⌜ floatsAnswer r ≡ onAccepted (floatsFrom base) (written answer) ⌝ }
 {
     match answer {
-        Written::Bytes(len) => Answer::View(FloatView {
+        Written::Bytes(len) => FloatsAnswer::Is(FloatView {
             base,
             start: 0,
             count: len / 4,
         }),
-        Written::Refused(k) => Answer::Refused(k),
+        Written::Refused(k) => FloatsAnswer::Refused(k),
     }
 }
 
 impl FloatView {
     fn is_outside(self, have: usize) -> bool
-        ensures { λ r. ⌜ r ≡ outsideOf (floats self .place) have ⌝ }
+        ensures { λ r. ⌜ r ≡ isOutside (viewOfFloats self .place) have ⌝ }
     {
         octets::floats_outside(self.start, self.count, have)
     }
@@ -56,7 +56,7 @@ impl FloatView {
     // Where its bytes are.
     fn place(self) -> Place
         requires { ⌜ self .count * 4 ≤ 18446744073709551615 ⌝ }
-        ensures { λ r. ⌜ r ≡ floats self .place ⌝ }
+        ensures { λ r. ⌜ r ≡ viewOfFloats self .place ⌝ }
     {
         Place {
             start: self.start,
@@ -65,17 +65,17 @@ impl FloatView {
     }
 
     // The pattern of the float at addr.
-    pub fn get(self, bytes: &[u8], addr: u16) -> FloatBits
-        ensures { λ r. ⌜ bits r ≡ bitsAt self (now (bytes .entry)) addr ⌝ }
+    pub fn get(self, bytes: &[u8], addr: u16) -> ReadBits
+        ensures { λ r. ⌜ readBits r ≡ bitsAt self (now (bytes .entry)) addr ⌝ }
     {
         if self.is_outside(bytes.len()) {
-            return FloatBits::Refused(refusal::OUTSIDE);
+            return ReadBits::Refused(refusal::OUTSIDE);
         }
         match view_part(self.base, self.count, addr, 1) {
-            Part::At(place) => {
-                FloatBits::Bits(number::little32(bytes, self.start + place.start * 4))
+            ReadPart::At(place) => {
+                ReadBits::Is(number::little32(bytes, self.start + place.start * 4))
             }
-            Part::Outside => FloatBits::Refused(refusal::OUTSIDE),
+            ReadPart::Outside => ReadBits::Refused(refusal::OUTSIDE),
         }
     }
 
@@ -86,14 +86,14 @@ impl FloatView {
         other: FloatView,
         other_bytes: &[u8],
         out: &mut [u8],
-    ) -> Answer
+    ) -> FloatsAnswer
         ensures { λ r. ⌜ (floatsAnswer r, now (out .exit)) ≡ floatsJoin self (now (bytes .entry)) other (now («other_bytes» .entry)) (now (out .entry)) ⌝ }
     {
         if self.is_outside(bytes.len()) {
-            return Answer::Refused(refusal::OUTSIDE);
+            return FloatsAnswer::Refused(refusal::OUTSIDE);
         }
         if other.is_outside(other_bytes.len()) {
-            return Answer::Refused(refusal::OUTSIDE);
+            return FloatsAnswer::Refused(refusal::OUTSIDE);
         }
         let first = octets::part(bytes, self.place());
         let second = octets::part(other_bytes, other.place());

@@ -3,7 +3,7 @@
 ghost use mathlib.Core.Path.{_≡_};
 ghost use mathlib.Core.List.{_++_};
 ghost use Rattle.octets.specs.Outcome.{written};
-ghost use Rattle.views.specs.Reading.{part, viewPart};
+ghost use Rattle.views.specs.Reading.{readPart, viewPart};
 ghost use Rattle.views.specs.Joining.{adjoined};
 use octets::Place;
 use octets::Written;
@@ -13,27 +13,27 @@ pub mod floats;
 pub mod memory;
 
 // The most that the base and the length of a view come to, a first view's and a joined memory view's.
-const TOP: usize = 65535;
+const VIEWS_END: usize = 65535;
 
 // The place of a part, or none.
-pub enum Part {
+pub enum ReadPart {
     At(Place),
     Outside,
 }
 
 // The part of a view that is len bytes or floats from addr on, as a place among its count of them.
-fn view_part(base: u16, count: usize, addr: u16, len: u8) -> Part
-    ensures { λ r. ⌜ part r ≡ viewPart base count addr len ⌝ }
+fn view_part(base: u16, count: usize, addr: u16, len: u8) -> ReadPart
+    ensures { λ r. ⌜ readPart r ≡ viewPart base count addr len ⌝ }
 {
     if addr < base {
-        return Part::Outside;
+        return ReadPart::Outside;
     }
     let start = (addr - base) as usize;
     let len = len as usize;
     if count < start + len {
-        return Part::Outside;
+        return ReadPart::Outside;
     }
-    Part::At(Place { start, len })
+    ReadPart::At(Place { start, len })
 }
 
 // Joins a view of base and len with one whose base is next: the first view's bytes, and behind them
@@ -42,7 +42,7 @@ fn join(base: u16, len: usize, next: u16, first: &[u8], second: &[u8], out: &mut
     ensures { λ r. ⌜ (written r, now (out .exit)) ≡ adjoined base len next (now (first .entry) ++ now (second .entry)) (now (out .entry)) ⌝ }
 {
     let base = base as usize;
-    if TOP - base < len {
+    if VIEWS_END - base < len {
         return Written::Refused(refusal::PAST_END);
     }
     if next as usize != base + len {

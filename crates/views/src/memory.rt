@@ -2,11 +2,11 @@
 ghost use mathlib.Core.Path.{_≡_};
 ghost use Prim.Native.Nat.{_-_, min};
 ghost use Rattle.octets.specs.Outcome.{written, onAccepted};
-ghost use Rattle.views.specs.Reading.{part, byte, word, partAt, byteAt, wordAt};
+ghost use Rattle.views.specs.Reading.{readPart, readByte, readWord, partAt, byteAt, wordAt};
 ghost use Rattle.views.specs.View.{memoryAnswer};
 ghost use Rattle.views.specs.Joining.{memoryFrom, memoryJoin};
-use crate::Part;
-use crate::TOP;
+use crate::ReadPart;
+use crate::VIEWS_END;
 use crate::join;
 use crate::view_part;
 use octets::Place;
@@ -19,19 +19,19 @@ pub struct MemoryView {
     pub data: Place,
 }
 
-pub enum Byte {
+pub enum ReadByte {
     Is(u8),
     Outside,
 }
 
-pub enum Word {
+pub enum ReadWord {
     Is(u16),
     Outside,
 }
 
 // A view, or the number of the refusal.
-pub enum Answer {
-    View(MemoryView),
+pub enum MemoryAnswer {
+    Is(MemoryView),
     Refused(u8),
 }
 
@@ -39,7 +39,7 @@ pub enum Answer {
 fn kept(base: u16, len: usize, more: usize) -> usize
     ensures { λ r. ⌜ r ≡ min (65535 - base - len) more ⌝ }
 {
-    let room = TOP - base as usize;
+    let room = VIEWS_END - base as usize;
     if room < len {
         return 0;
     }
@@ -50,55 +50,55 @@ fn kept(base: u16, len: usize, more: usize) -> usize
 }
 
 // The joined bytes, which stand at the start of out, as a view.
-fn joined_memory(base: u16, answer: Written) -> Answer
+fn joined_memory(base: u16, answer: Written) -> MemoryAnswer
     ensures { λ r. ⌜ memoryAnswer r ≡ onAccepted (memoryFrom base) (written answer) ⌝ }
 {
     match answer {
-        Written::Bytes(len) => Answer::View(MemoryView {
+        Written::Bytes(len) => MemoryAnswer::Is(MemoryView {
             base,
             data: Place { start: 0, len },
         }),
-        Written::Refused(k) => Answer::Refused(k),
+        Written::Refused(k) => MemoryAnswer::Refused(k),
     }
 }
 
 impl MemoryView {
     // The place of len bytes from addr on, in the caller's bytes.
-    pub fn read_at(self, bytes: &[u8], addr: u16, len: u8) -> Part
-        ensures { λ r. ⌜ part r ≡ partAt self (now (bytes .entry)) addr len ⌝ }
+    pub fn read_at(self, bytes: &[u8], addr: u16, len: u8) -> ReadPart
+        ensures { λ r. ⌜ readPart r ≡ partAt self (now (bytes .entry)) addr len ⌝ }
     {
         let data = self.data;
-        if octets::outside(data, bytes.len()) {
-            return Part::Outside;
+        if octets::is_outside(data, bytes.len()) {
+            return ReadPart::Outside;
         }
         match view_part(self.base, data.len, addr, len) {
-            Part::At(place) => {
+            ReadPart::At(place) => {
                 let start = data.start + place.start;
-                Part::At(Place {
+                ReadPart::At(Place {
                     start,
                     len: place.len,
                 })
             }
-            Part::Outside => Part::Outside,
+            ReadPart::Outside => ReadPart::Outside,
         }
     }
 
-    pub fn read_u8(self, bytes: &[u8], addr: u16) -> Byte
-        ensures { λ r. ⌜ byte r ≡ byteAt self (now (bytes .entry)) addr ⌝ }
+    pub fn read_u8(self, bytes: &[u8], addr: u16) -> ReadByte
+        ensures { λ r. ⌜ readByte r ≡ byteAt self (now (bytes .entry)) addr ⌝ }
     {
         match self.read_at(bytes, addr, 1) {
-            Part::At(place) => Byte::Is(number::byte(bytes, place.start)),
-            Part::Outside => Byte::Outside,
+            ReadPart::At(place) => ReadByte::Is(number::byte(bytes, place.start)),
+            ReadPart::Outside => ReadByte::Outside,
         }
     }
 
     // The most significant byte first.
-    pub fn read_u16(self, bytes: &[u8], addr: u16) -> Word
-        ensures { λ r. ⌜ word r ≡ wordAt self (now (bytes .entry)) addr ⌝ }
+    pub fn read_u16(self, bytes: &[u8], addr: u16) -> ReadWord
+        ensures { λ r. ⌜ readWord r ≡ wordAt self (now (bytes .entry)) addr ⌝ }
     {
         match self.read_at(bytes, addr, 2) {
-            Part::At(place) => Word::Is(number::big16(bytes, place.start)),
-            Part::Outside => Word::Outside,
+            ReadPart::At(place) => ReadWord::Is(number::big16(bytes, place.start)),
+            ReadPart::Outside => ReadWord::Outside,
         }
     }
 
@@ -110,16 +110,16 @@ impl MemoryView {
         other: MemoryView,
         other_bytes: &[u8],
         out: &mut [u8],
-    ) -> Answer
+    ) -> MemoryAnswer
         ensures { λ r. ⌜ (memoryAnswer r, now (out .exit)) ≡ memoryJoin self (now (bytes .entry)) other (now («other_bytes» .entry)) (now (out .entry)) ⌝ }
     {
         let data = self.data;
         let rest = other.data;
-        if octets::outside(data, bytes.len()) {
-            return Answer::Refused(refusal::OUTSIDE);
+        if octets::is_outside(data, bytes.len()) {
+            return MemoryAnswer::Refused(refusal::OUTSIDE);
         }
-        if octets::outside(rest, other_bytes.len()) {
-            return Answer::Refused(refusal::OUTSIDE);
+        if octets::is_outside(rest, other_bytes.len()) {
+            return MemoryAnswer::Refused(refusal::OUTSIDE);
         }
         let first = octets::part(bytes, data);
         let more = kept(self.base, data.len, rest.len);

@@ -2,16 +2,16 @@
 use borrow.Author.Tests.{ne-eqb}
 use Rattle.octets.proofs.Choosing.{tests}
 use Rattle.octets.specs.Choice.{ifEq, ifBoth}
-use Rattle.facts.specs.Kind.{kindOf}
+use Rattle.facts.specs.DeviceInfo.{deviceKind}
 use Rattle.facts.proofs.probe.probe_kind.Statement.{statement}
 use Rattle.facts.proofs.probe.probe_kind.Tie as tie
 
 returns-19 : tie.Need-returns-19
-unfolding kindOf ifBoth
+unfolding deviceKind ifBoth
 returns-19 c = search tests depth 20
 
 pub probe-kind-spec : {M : Type 1} → statement M
-unfolding kindOf ifBoth ifEq
+unfolding deviceKind ifBoth ifEq
 probe-kind-spec =
     tie.close
     (tie.spec

@@ -7,7 +7,7 @@ returns-5 : tie.Need-returns-5
 returns-5 c = rw (c .before .before .field .given .1, c .is-outside .ensures)
 
 returns-6 : tie.Need-returns-6
-returns-6 c = rw (c .before .before .field2 .given .1, c .outside .ensures)
+returns-6 c = rw (c .before .before .field2 .given .1, c .is-outside2 .ensures)
 
 returns-7 : tie.Need-returns-7
 returns-7 c = rw (c .before .before .field3 .given .1, c .floats-outside .ensures)

@@ -7,7 +7,7 @@ use lib.ListN.{length, take}
 use borrow.Author.Needs.{needs}
 use Rattle.octets.specs.Over.{over}
 use Rattle.octets.proofs.Overlay.{length-over, put-rest}
-use Rattle.fields.specs.Row.{bytesOf, packetOf, fieldsOf}
+use Rattle.fields.specs.Row.{fieldBytes, packetOf, fieldsOf}
 use Rattle.fields.proofs.Rows.{sound-at, packet-more, packet-length, packet-prefix, next-ends, packet-all}
 use Rattle.fields.proofs.row.put_row.Statement.{statement}
 use Rattle.fields.proofs.row.put_row.Tie as tie

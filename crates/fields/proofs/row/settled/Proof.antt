@@ -4,7 +4,7 @@ use native.Mathlib.Omega.{arith}
 use Rattle.octets.proofs.Choosing.{below, above}
 use lib.ListN.{length}
 use Rattle.octets.specs.Outcome.{accepted}
-use Rattle.fields.specs.Row.{packetOf, encodedOf, counted, fieldsOf}
+use Rattle.fields.specs.Row.{packetOf, encodedOf, encodedLength, fieldsOf}
 use borrow.Author.Needs.{needs}
 use Rattle.fields.proofs.row.settled.Statement.{statement}
 use Rattle.fields.proofs.row.settled.Tie as tie
@@ -23,7 +23,7 @@ row-len-requires c κs = record { addressed = sym (c .before .before .before .an
 
 returns-3 : tie.Need-returns-3
 unfolding encodedOf
-returns-3 c = let p = c .before .before .before in rw (← p .before .before .any-misaddressed .ensures, p .before .if1 .left, ← p .any-misplaced .ensures, c .before .before .if2 .left) (ap counted (below _ _ _ _ _ (omega (arith, c .before .row-len .ensures)) refl))
+returns-3 c = let p = c .before .before .before in rw (← p .before .before .any-misaddressed .ensures, p .before .if1 .left, ← p .any-misplaced .ensures, c .before .before .if2 .left) (ap encodedLength (below _ _ _ _ _ (omega (arith, c .before .row-len .ensures)) refl))
 
 returns-4 : tie.Need-returns-4
 unfolding encodedOf
@@ -32,7 +32,7 @@ returns-4 c =
     let a = p .before .before .before .before .args in
     let n : c .before .row-len .result ≡ length (packetOf (a .payload .now) (fieldsOf (a .row))) = omega (arith, c .before .row-len .ensures) in
     rw (← p .before .before .any-misaddressed .ensures, p .before .if1 .left, ← p .any-misplaced .ensures, c .before .before .if2 .left)
-    (ap accepted n ∙ ap counted (above _ _ _ _ _ (omega (arith, c .before .row-len .ensures)) refl))
+    (ap accepted n ∙ ap encodedLength (above _ _ _ _ _ (omega (arith, c .before .row-len .ensures)) refl))
 
 pub settled-spec : {M : Type 1} → statement M
 settled-spec =

@@ -7,16 +7,16 @@ use lib.Bits.{bitXor}
 use lib.Pow.{field, mod-mod-pow}
 use borrow.Author.Needs.{needs}
 use Rattle.octets.proofs.Choosing.{below, above}
-use Rattle.numbers.specs.Pattern.{exponent, digits}
+use Rattle.numbers.specs.Pattern.{exponent, fraction}
 use Rattle.numbers.specs.FixedPoint.{codeOf, lowBits, encoded, flip27}
 use Rattle.numbers.proofs.Words.{xor-flip}
 use Rattle.numbers.proofs.fixed_point.code_of.Statement.{statement}
 use Rattle.numbers.proofs.fixed_point.code_of.Tie as tie
 
-fields : (b : ℕ) (s : Bool) → lowBits 32 (encoded s (b % 2 ^ 31 / 2 ^ 23) (b % 2 ^ 31 % 2 ^ 23)) ≡ lowBits 32 (encoded s (exponent b) (digits b))
+fields : (b : ℕ) (s : Bool) → lowBits 32 (encoded s (b % 2 ^ 31 / 2 ^ 23) (b % 2 ^ 31 % 2 ^ 23)) ≡ lowBits 32 (encoded s (exponent b) (fraction b))
 fields b s = rw (field b 8 23, mod-mod-pow b 8 23)
 
-flipped : (b low : ℕ) → low ≡ lowBits 32 (encoded (leb (2 ^ 31) b) (b % 2 ^ 31 / 2 ^ 23) (b % 2 ^ 31 % 2 ^ 23)) → bitXor low 0x0800_0000 ≡ flip27 (lowBits 32 (encoded (leb (2 ^ 31) b) (exponent b) (digits b)))
+flipped : (b low : ℕ) → low ≡ lowBits 32 (encoded (leb (2 ^ 31) b) (b % 2 ^ 31 / 2 ^ 23) (b % 2 ^ 31 % 2 ^ 23)) → bitXor low 0x0800_0000 ≡ flip27 (lowBits 32 (encoded (leb (2 ^ 31) b) (exponent b) (fraction b)))
 flipped b low e = xor-flip low ∙ ap flip27 (e ∙ fields b (leb (2 ^ 31) b))
 
 returns : tie.Need-returns

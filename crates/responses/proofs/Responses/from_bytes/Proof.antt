@@ -15,7 +15,7 @@ returns-2 c = search tests
 
 returns-3 : tie.Need-returns-3
 unfolding responseOf
-returns-3 c = rw (c .by-kind .ensures, c .before .byte .ensures) (search tests)
+returns-3 c = rw (c .response-by .ensures, c .before .byte .ensures) (search tests)
 
 pub from-bytes-spec : {M : Type 1} → statement M
 from-bytes-spec = tie.close (tie.spec returns returns-2 (λ c κs. search needs) (λ c κs. search needs) returns-3)

@@ -4,7 +4,7 @@ use lib.ListN.{drop}
 use Rattle.octets.specs.Outcome.{onAccepted, done}
 use Rattle.octets.specs.Place.{partOf}
 use Rattle.saves.specs.Replay.{Save, fieldsMean}
-use Rattle.saves.specs.Judged.{sizedOf}
+use Rattle.saves.specs.Judged.{judgedSized}
 use Rattle.octets.proofs.Parts.{part-rest}
 use Rattle.saves.proofs.Judging.{only-shape}
 use borrow.Author.Needs.{needs}
@@ -15,7 +15,7 @@ returns : tie.Need-returns
 returns c = rw (← c .before .too-large .ensures, c .if1 .taken)
 
 -- what the scan tells, with the sizes put beside
-told : (d : tie.After-scan) → let a = d .before .before .before .before .before .before .args in onAccepted (λ (s : Save). s .shape) (sizedOf (a .shape) (a .save .now)) ≡ onAccepted (λ u. a .shape) (done (d .scan .result))
+told : (d : tie.After-scan) → let a = d .before .before .before .before .before .before .args in onAccepted (λ (s : Save). s .shape) (judgedSized (a .shape) (a .save .now)) ≡ onAccepted (λ u. a .shape) (done (d .scan .result))
 told d =
     let lent = d .before in
     let sized = d .before .before .before in

@@ -12,7 +12,7 @@ use Rattle.packet.specs.Frame.{total, checksumOf}
 use Rattle.packet.specs.Receipt.{lengthByte}
 use Rattle.packet.proofs.Frames.{total-turn}
 use Rattle.saves.specs.Stream.{tagOf}
-use Rattle.saves.specs.Judged.{sound, receiptOf}
+use Rattle.saves.specs.Judged.{noFault, receiptOf}
 use Rattle.saves.specs.Replay.{fieldsMean}
 use Rattle.saves.proofs.Streams.{tag-whole, cut-behind, behind-shorter}
 use Rattle.saves.proofs.Judging.{leftMean, all-left, none-left, as-long, not-received, not-summed, not-meant, goes-on}
@@ -26,7 +26,7 @@ abbrev μ-bytes : tie.MeasureT-bytes
 μ-bytes fields e s rest frames frame len sum₀ i₀ sum i = len - i
 
 abbrev Inv-fields : tie.InvT-fields
-Inv-fields fields e s rest₀ frames₀ rest frames = (frames + length rest ≤ length fields) × (sound (leftMean e s frames rest) ≡ sound (fieldsMean e s fields))
+Inv-fields fields e s rest₀ frames₀ rest frames = (frames + length rest ≤ length fields) × (noFault (leftMean e s frames rest) ≡ noFault (fieldsMean e s fields))
 
 abbrev μ-fields : tie.MeasureT-fields
 μ-fields fields e s rest₀ frames₀ rest frames = length rest
@@ -51,7 +51,7 @@ sums : (d : tie.Else3 Inv-bytes μ-bytes Inv-fields μ-fields) → let f = frame
 sums d = rw (← d .before .before .before .before .byte .ensures, ← d .before .before .if2 .taken) (sym (d .before .before .before .bytes .inv .1) ∙ d .if3 .left ∙ d .before .byte2 .ensures)
 
 fields-holds : tie.Need-fields-holds Inv-bytes μ-bytes Inv-fields μ-fields
-fields-holds c = let a = c .before .args in (omega arith, ap sound (all-left (a .e) (a .s) (a .fields .now)))
+fields-holds c = let a = c .before .args in (omega arith, ap noFault (all-left (a .e) (a .s) (a .fields .now)))
 
 bytes-holds : tie.Need-bytes-holds Inv-bytes μ-bytes Inv-fields μ-fields
 unfolding total
@@ -99,7 +99,7 @@ fields-again c =
     let shorter = behind-shorter (left d) (is-frame d) in
     let fine = rw (told .enum-told2 .given .1) at (fault .packet-fault .ensures) in
     rw (cut-behind (left d) (c .before .field-end .result) (c .before .field-end .ensures))
-    (omega (arith, shorter), goes-on (first .args .e) (first .args .s) (l .fields .frames) (left d) (frame d) (is-frame d) (d .content-of .ensures) (received got) (sums good) _ (fault .before .packet-of .ensures) fine ∙ l .fields .inv .1)
+    (omega (arith, shorter), goes-on (first .args .e) (first .args .s) (l .fields .frames) (left d) (frame d) (is-frame d) (d .content-of .ensures) (received got) (sums good) _ (fault .before .packet-in .ensures) fine ∙ l .fields .inv .1)
 
 returns : tie.Need-returns Inv-bytes μ-bytes Inv-fields μ-fields
 returns c = let l = c .before .before .before .fields in c .end-of .ensures ∙ none-left (c .before .before .before .before .before .args .e) (c .before .before .before .before .before .args .s) (l .frames) (l .rest .now) (λ h. c .before .if1 .taken (c .before .before .tag-of .ensures ∙ h)) ∙ l .inv .1
@@ -134,7 +134,7 @@ returns-4 c =
     let d = got .before .before .before in
     let l = d .before .before .before in
     let first = l .before .before in
-    not-meant (first .args .e) (first .args .s) (l .fields .frames) (left d) (frame d) (is-frame d) (d .content-of .ensures) (received got) (sums good) _ (fault .before .packet-of .ensures) (rw (told .k2 .given .1) at (fault .packet-fault .ensures)) ∙ l .fields .inv .1
+    not-meant (first .args .e) (first .args .s) (l .fields .frames) (left d) (frame d) (is-frame d) (d .content-of .ensures) (received got) (sums good) _ (fault .before .packet-in .ensures) (rw (told .k2 .given .1) at (fault .packet-fault .ensures)) ∙ l .fields .inv .1
 
 pub scan-spec : {M : Type 1} → statement M
 scan-spec =

@@ -36,7 +36,7 @@ returns-3 c =
     let l = first .args .save .now in
     let fields = lent .part .ensures ∙ ap (partOf l) (lent .before .rest-of .ensures) ∙ part-rest l 11 in
     let stores = replay-stores e s l (memory (first .args .eeprom .now) (first .args .settings .now)) (rw (told .enum-told .given .1) at (judged .judge-for .ensures)) in
-    rw (← sized .before .too-large .ensures, sized .if1 .left) (above _ _ _ _ _ (short .if2 .left) (rw (call .store .ensures, fields) stores))
+    rw (← sized .before .too-large .ensures, sized .if1 .left) (above _ _ _ _ _ (short .if2 .left) (rw (call .store-frames .ensures, fields) stores))
 
 returns-4 : tie.Need-returns-4
 unfolding replayOf

@@ -13,15 +13,15 @@ returns c =
     let told = stored .before .before .before .before .before .before in
     let a = told .before .before .before .before .before .args in
     let means = rw (change .given .1) at (told .meaning-of .ensures) in
-    rw (← told .before .packet-of .ensures, ← change-writes _ (length (a .eeprom .now)) (length (a .settings .now)) _ means) (stored .store .ensures)
+    rw (← told .before .packet-in .ensures, ← change-writes _ (length (a .eeprom .now)) (length (a .settings .now)) _ means) (stored .store .ensures)
 
 returns-2 : tie.Need-returns-2
 returns-2 c =
     let told = c .before .before in
     let a = told .before .before .before .before .before .args in
-    let p = told .before .packet-of .result .now in
+    let p = told .before .packet-in .result .now in
     let means = rw (c .enum-told .given .1) at (told .meaning-of .ensures) in
-    rw (← told .before .packet-of .ensures, ← none-writes p (packetMeans (length (a .eeprom .now)) (length (a .settings .now)) p) means)
+    rw (← told .before .packet-in .ensures, ← none-writes p (packetMeans (length (a .eeprom .now)) (length (a .settings .now)) p) means)
 
 pub store-frame-spec : {M : Type 1} → statement M
 store-frame-spec =

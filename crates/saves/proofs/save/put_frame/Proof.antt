@@ -6,7 +6,7 @@ use borrow.Author.Needs.{needs}
 use Rattle.packet.specs.Frame.{frameOf}
 use Rattle.packet.proofs.Frames.{length-frame}
 use Rattle.fields.specs.Row.{packetOf}
-use Rattle.commands.specs.Encode.{rowOf}
+use Rattle.commands.specs.Encode.{commandRow}
 use Rattle.commands.specs.Decode.{noValues}
 use Rattle.saves.specs.Save.{frameField}
 use Rattle.saves.proofs.Saved.{field-put}
@@ -22,7 +22,7 @@ returns c =
     let head = first .before .before .before in
     let start = head .before .before .before in
     let a = start .args in
-    let p : List ℕ = packetOf (a .payload .now) (rowOf (a .command) noValues) in
+    let p : List ℕ = packetOf (a .payload .now) (commandRow (a .command) noValues) in
     let wrote = rw (none .no-values .ensures, start .pre .0) at (second .to-frame .ensures) in
     field-put 0x10 (a .len) (a .out .now) (head .head .ensures) (first .put .ensures) (frameOf p) wrote (omega (arith, length-frame p)) (omega arith)
 

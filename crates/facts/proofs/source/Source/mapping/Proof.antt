@@ -5,7 +5,7 @@ use borrow.Author.Needs.{needs}
 use borrow.Author.Tests.{ne-eqb}
 use Rattle.octets.specs.Choice.{ifEq}
 use Rattle.octets.proofs.Choosing.{tests}
-use Rattle.facts.specs.Source.{entry, held, mappingOf}
+use Rattle.facts.specs.Source.{entry, sevenOf, mappingOf}
 use Rattle.facts.specs.declared.source.Source.the-variants.{NotInstalled}
 use Rattle.facts.proofs.source.Source.mapping.Statement.{statement}
 use Rattle.facts.proofs.source.Source.mapping.Tie as tie
@@ -21,7 +21,7 @@ unfolding mappingOf
 returns-14 c =
     let info = c .before .args .info in
     let none : entry NotInstalled 0 ∷ [] ≡ mappingOf (info .«hw_id») (info .«dsp_version») = search tests depth 20 in
-    ap held none
+    ap sevenOf none
 
 pub mapping-spec : {M : Type 1} → statement M
 unfolding mappingOf ifEq

@@ -23,18 +23,18 @@ element-copy-out-e c = inside _ _ (c .before .before .before .mapping .ensures) 
 returns : tie.Need-returns Inv-loop μ-loop
 returns c =
     let l = c .before .before .before .before in
-    let same = sym (c .before .number2 .ensures) ∙ c .if1 .taken in
-    rw (← l .before .number .ensures) (hit (l .loop .inv) _ (l .before .before .mapping .ensures) (c .before .before .before .loop-test .taken) same)
+    let same = sym (c .before .source-number2 .ensures) ∙ c .if1 .taken in
+    rw (← l .before .source-number .ensures) (hit (l .loop .inv) _ (l .before .before .mapping .ensures) (c .before .before .before .loop-test .taken) same)
 
 loop-again : tie.Need-loop-again Inv-loop μ-loop
 loop-again c =
     next (c .before .before .before .before .loop .inv) (c .before .before .before .loop-test .taken)
-    (λ e. c .if1 .left (c .before .number2 .ensures ∙ e))
+    (λ e. c .if1 .left (c .before .source-number2 .ensures ∙ e))
 
 returns-2 : tie.Need-returns-2 Inv-loop μ-loop
 returns-2 c =
     let l = c .before in
-    rw (← l .before .number .ensures) (out (l .loop .inv) _ (l .before .before .mapping .ensures) (c .loop-test .left))
+    rw (← l .before .source-number .ensures) (out (l .loop .inv) _ (l .before .before .mapping .ensures) (c .loop-test .left))
 
 pub to-id-spec : {M : Type 1} → statement M
 to-id-spec =

@@ -4,7 +4,7 @@ use Rattle.fields.proofs.value.Value.is_outside.Statement.{statement}
 use Rattle.fields.proofs.value.Value.is_outside.Tie as tie
 
 returns-5 : tie.Need-returns-5
-returns-5 c = rw (c .before .before .self .given .1, c .outside .ensures)
+returns-5 c = rw (c .before .before .self .given .1, c .is-outside .ensures)
 
 pub is-outside-spec : {M : Type 1} → statement M
 is-outside-spec =

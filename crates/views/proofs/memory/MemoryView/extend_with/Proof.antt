@@ -10,14 +10,14 @@ use Rattle.views.proofs.memory.MemoryView.extend_with.Tie as tie
 
 returns : tie.Need-returns
 unfolding memoryJoin
-returns c = ap (viewed _) (below _ _ _ _ _ (found-outside _ _ (c .before .outside .ensures) (c .if1 .taken)) refl)
+returns c = ap (viewed _) (below _ _ _ _ _ (found-outside _ _ (c .before .is-outside .ensures) (c .if1 .taken)) refl)
 
 returns-2 : tie.Need-returns-2
 unfolding memoryJoin
 returns-2 c =
     let m = c .before .before in
-    let h = found-inside _ _ (m .before .outside .ensures) (m .if1 .left) in
-    let k = found-outside _ _ (c .before .outside2 .ensures) (c .if2 .taken) in
+    let h = found-inside _ _ (m .before .is-outside .ensures) (m .if1 .left) in
+    let k = found-outside _ _ (c .before .is-outside2 .ensures) (c .if2 .taken) in
     ap (viewed _) (above _ _ _ _ _ h (below _ _ _ _ _ k refl))
 
 returns-3 : tie.Need-returns-3
@@ -28,8 +28,8 @@ returns-3 c =
     let first = second .before .before in
     let two = first .before in
     let one = two .before .before in
-    let h = found-inside _ _ (one .before .outside .ensures) (one .if1 .left) in
-    let k = found-inside _ _ (two .before .outside2 .ensures) (two .if2 .left) in
+    let h = found-inside _ _ (one .before .is-outside .ensures) (one .if1 .left) in
+    let k = found-inside _ _ (two .before .is-outside2 .ensures) (two .if2 .left) in
     let e = rw (first .part .ensures, second .part2 .ensures, second .before .kept .ensures) at (j .join .ensures) in
     rw (c .joined-memory .ensures) (ap (viewed _) (above _ _ _ _ _ h (above _ _ _ _ _ k (e ∙ adjoined-kept _ _ _ _ _ _ _ h))))
 
