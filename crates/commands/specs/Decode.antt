@@ -74,6 +74,28 @@ biquadOf p =
     let k = widthIf (ltb 24 (r p)) in
     ifLt (length p) (k + 3) (refused ends) (ifLt (length p) (k + 23) (refused fewValues) (accepted (WriteBiquad (addrAt k p 1))))
 
+-- The five values of a biquad, which stand beside the command.
+abbrev pub coefficient : Value → Coefficient
+coefficient v = record { value = v }
+
+-- the Rust's default: five floats of 0
+abbrev pub noValues : List Coefficient
+noValues = let zero = coefficient (Float (ofBits binary32 0)) in zero ∷ zero ∷ zero ∷ zero ∷ zero ∷ []
+
+-- None is ever an Int: the Rust does not read these four bytes by `Value::from_bytes`, as it does 0x13's value, but copies them as
+-- `Value::Unknown`, whatever they are.
+abbrev pub unknownAt : ℕ → Coefficient
+unknownAt n = coefficient (UnknownValue (placeAt n 4))
+
+abbrev pub fiveFrom : ℕ → List Coefficient
+fiveFrom n = unknownAt n ∷ unknownAt (n + 4) ∷ unknownAt (n + 8) ∷ unknownAt (n + 12) ∷ unknownAt (n + 16) ∷ []
+
+-- those of a 0x30 that is read, behind its address and two bytes; of any other packet the default
+unfoldable pub valuesAt : List ℕ → List Coefficient
+valuesAt p =
+    ifLt 254 (length p) noValues
+    (ifEq (at p 0) 0x30 (let k = widthIf (ltb 24 (r p)) in ifLt (length p) (k + 23) noValues (fiveFrom (k + 3))) noValues)
+
 abbrev pub setSourceOf : List ℕ → Outcome Commands
 setSourceOf p = needing 2 p (SetSource (at p 1))
 
@@ -117,24 +139,3 @@ commandBy k p =
 -- "packet over 254 bytes" first, then the packet
 unfoldable pub commandOf : List ℕ → Outcome Commands
 commandOf p = ifLt 254 (length p) (refused tooLong) (ifLt (length p) 1 (refused ends) (commandBy (at p 0) p))
-
--- ---- the five values beside a command
-
-abbrev pub coefficient : Value → Coefficient
-coefficient v = record { value = v }
-
--- the Rust's default: five floats of 0
-abbrev pub noValues : List Coefficient
-noValues = let zero = coefficient (Float (ofBits binary32 0)) in zero ∷ zero ∷ zero ∷ zero ∷ zero ∷ []
-
-abbrev pub unknownAt : ℕ → Coefficient
-unknownAt n = coefficient (UnknownValue (placeAt n 4))
-
-abbrev pub fiveFrom : ℕ → List Coefficient
-fiveFrom n = unknownAt n ∷ unknownAt (n + 4) ∷ unknownAt (n + 8) ∷ unknownAt (n + 12) ∷ unknownAt (n + 16) ∷ []
-
--- of a 0x30 that is read, behind its address and two bytes; of any other packet the default
-unfoldable pub valuesAt : List ℕ → List Coefficient
-valuesAt p =
-    ifLt 254 (length p) noValues
-    (ifEq (at p 0) 0x30 (let k = widthIf (ltb 24 (r p)) in ifLt (length p) (k + 23) noValues (fiveFrom (k + 3))) noValues)

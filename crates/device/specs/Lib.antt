@@ -1,4 +1,9 @@
+-- Types that only src/ declares. Numbers are ℕ here, a bool is Bool, an f32 is Float, an array is a List.
+-- enum Executed: Response(Responses), Refused(u8)
 pub mod Effect
 pub mod Data
 pub mod Execute
-pub mod Decided
+-- what only private functions promise: a reader who believes only the public contracts can stop here
+-- type Effect: response Responses, change Change
+-- enum Decided: Does(Effect), Refused(u8)
+pub mod Inside

@@ -9,7 +9,7 @@ ghost use Rattle.octets.specs.Number.{littleAt};
 ghost use Rattle.fields.specs.Value.{valueBytes, valueOutside};
 ghost use Rattle.responses.specs.declared.Responses.the-variants.{FirLoadSize};
 ghost use Rattle.processor.specs.declared.change.Change.the-variants.{Nothing};
-ghost use Rattle.device.specs.Decided.{decided, does, dataLength, answerLength};
+ghost use Rattle.device.specs.Inside.{decided, does, dataLength, answerLength};
 ghost use Rattle.device.specs.Effect.{effectOf, takenOf, identityOf, readingOf, readMemoryDoes, writeMemoryDoes, readFloatsDoes, writeDoes, setByte};
 use commands::Commands;
 use facts::HardwareId;

@@ -6,7 +6,7 @@ ghost use Rattle.octets.specs.Outcome.{written};
 ghost use Rattle.octets.specs.Over.{over};
 ghost use Rattle.processor.specs.Memory.{memory};
 ghost use Rattle.processor.specs.Change.{writesIn};
-ghost use Rattle.device.specs.Decided.{dataLength};
+ghost use Rattle.device.specs.Inside.{dataLength};
 ghost use Rattle.device.specs.Data.{dataOf, memoryPart, wordsPart};
 ghost use Rattle.device.specs.Execute.{executed, executedRecord, executedInto, commandInto, answerInto, storeIf, packetInto, receivedInto};
 use crate::effect::Decided;

@@ -19,7 +19,8 @@ use Rattle.octets.proofs.InBytes.{big-lt, big-again, little-again, little-parts
 use Rattle.octets.proofs.Parts.{is-inside}
 use Rattle.fields.specs.Addr.{bit, wrongLength, addrAt, addrBytes}
 use Rattle.fields.specs.Value.{valueAt, valueBytes, valueOutside}
-use Rattle.fields.specs.Row.{fieldBytes, packetOf, anyOf, Writable, AllWritable, encodedOf}
+use Rattle.fields.specs.Row.{fieldBytes, packetOf, anyOf, encodedOf}
+use Rattle.fields.specs.Inside.{Writable, AllWritable}
 use Rattle.fields.specs.Back.{Clear}
 use Rattle.fields.specs.declared.row.Field.{Field}
 use Rattle.fields.specs.declared.row.Field.the-variants.{Byte, Word, Address, Coded, Payload, Floats}

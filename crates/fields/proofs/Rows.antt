@@ -14,7 +14,8 @@ use Rattle.octets.proofs.Parts.{part-between}
 use Rattle.fields.specs.declared.row.Cell.{Cell}
 use Rattle.fields.specs.declared.row.Field.{Field}
 use Rattle.fields.specs.declared.row.Field.the-variants.{Nothing}
-use Rattle.fields.specs.Row.{fieldBytes, packetOf, misaddressed, misplaced, anyOf, Writable, AllWritable, encodedOf, fieldsOf, nothings, padded}
+use Rattle.fields.specs.Row.{fieldBytes, packetOf, misaddressed, misplaced, anyOf, encodedOf, fieldsOf, nothings, padded}
+use Rattle.fields.specs.Inside.{Writable, AllWritable}
 
 abbrev pub noCell : Cell
 noCell = record { field = Nothing }

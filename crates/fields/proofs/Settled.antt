@@ -10,7 +10,8 @@ use Rattle.octets.specs.Outcome.{Outcome, accepted, refused}
 use Rattle.octets.specs.Choice.{pick, ifLt}
 use Rattle.octets.proofs.Choosing.{above, either-lt}
 use Rattle.fields.specs.declared.row.Field.{Field}
-use Rattle.fields.specs.Row.{packetOf, misaddressed, misplaced, anyOf, AllWritable, encodedOf, encodedLength}
+use Rattle.fields.specs.Row.{packetOf, misaddressed, misplaced, anyOf, encodedOf}
+use Rattle.fields.specs.Inside.{AllWritable, encodedLength}
 
 pub record Ready (p : List ℕ) (row : List Field) (n : ℕ) : Type 0 where
   pub sound : AllWritable p row

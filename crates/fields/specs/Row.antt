@@ -1,11 +1,10 @@
 -- A packet is a row of fields: numbers, addresses, values, and parts of the bytes that the caller lends.
-use Prim.Native.Nat.{ℕ, zero, suc, _+_, _-_}
-use mathlib.Core.Path.{_≡_}
+use Prim.Native.Nat.{ℕ, zero, suc, _-_}
 use mathlib.Core.Bool.{Bool, true, false}
 use mathlib.Core.List.{List, [], _∷_, _++_}
 use lib.ListN.{length}
 use Rattle.octets.specs.Refusals.{addressLength, outside, tooLong}
-use Rattle.octets.specs.Outcome.{Outcome, accepted, refused, onAccepted}
+use Rattle.octets.specs.Outcome.{Outcome, accepted, refused}
 use Rattle.octets.specs.Choice.{pick, ifLt}
 use Rattle.octets.specs.Over.{settle}
 use Rattle.octets.specs.Number.{bigBytes}
@@ -55,25 +54,12 @@ unfoldable pub anyOf : (Field → Bool) → List Field → Bool
 anyOf test [] = false
 anyOf test (f ∷ fs) = pick (test f) true (anyOf test fs)
 
--- a field that nothing is wrong with, and a row of such fields
-pub record Writable (p : List ℕ) (f : Field) : Type 0 where
-  pub addressed : misaddressed f ≡ false
-  pub placed : misplaced (length p) f ≡ false
-
-pub record AllWritable (p : List ℕ) (row : List Field) : Type 0 where
-  pub addressed : anyOf misaddressed row ≡ false
-  pub placed : anyOf (misplaced (length p)) row ≡ false
-
 -- "Encoding: 8, 7, 5, 6."
 unfoldable pub encodedOf : List ℕ → List Field → Outcome (List ℕ)
 encodedOf p row =
     pick (anyOf misaddressed row) (refused addressLength)
     (pick (anyOf (misplaced (length p)) row) (refused outside)
     (ifLt 254 (length (packetOf p row)) (refused tooLong) (accepted (packetOf p row))))
-
--- how many bytes that takes
-abbrev pub encodedLength : Outcome (List ℕ) → Outcome ℕ
-encodedLength = onAccepted length
 
 abbrev pub rowInto : List ℕ → List Field → List ℕ → Outcome ℕ × List ℕ
 rowInto p row out = settle (encodedOf p row) (λ bytes. bytes) out

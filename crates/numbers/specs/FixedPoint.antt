@@ -20,7 +20,8 @@ flip27 word = word + 2 ^ 27 - word / 2 ^ 27 % 2 * 2 ^ 28
 -- ---- from_f32
 
 -- "exact value times 2^23, plus 2^27, rounded once to binary64 (nearest, ties to even), cut toward zero":
--- n units of 2^-149, times 2^23, are n units of 2^-126, of which 2^27 is 2^153
+-- n units of 2^-149, times 2^23, are n units of 2^-126, of which 2^27 is 2^153. It is the sum that is cut toward zero: of the float
+-- that is a cut down (`cutDown` in Format.antt).
 unfoldable pub cutSum : Bool → ℕ → ℤ
 cutSum false n = pos (roundTo 53 (2 ^ 153 + n) / 2 ^ 126)
 cutSum true n = ifLt (2 ^ 153) n (negℤ (pos (roundTo 53 (n - 2 ^ 153) / 2 ^ 126))) (pos (roundTo 53 (2 ^ 153 - n) / 2 ^ 126))

@@ -16,8 +16,9 @@ abbrev pub asFloat : ℤ → Float
 asFloat (pos n) = round binary32 false n (2 ^ 23)
 asFloat (negsuc n) = round binary32 true (suc n) (2 ^ 23)
 
--- The float of n units of 2^-149, cut down to a step: n / 2^126 steps. "flooring tiny negatives (-1e-30 codes 0)" is a
--- slip: below zero, 2^-27 of a step and less is lost in the sum.
+-- The float of n units of 2^-149, cut down to a step: n / 2^126 steps. `cutSum` cuts toward zero, but what it cuts is the sum: from
+-- -2^27 steps on that is not below zero, so that toward zero is down, and a float below that is a whole number of steps. "flooring
+-- tiny negatives (-1e-30 codes 0)" is a slip: below zero, 2^-27 of a step and less is lost where the sum is rounded.
 abbrev pub cutDown : Bool → ℕ → ℤ
 cutDown false n = pos (n / 2 ^ 126)
 cutDown true n = ifLt (2 ^ 99) n (negℤ (pos ((n + (2 ^ 126 - 1)) / 2 ^ 126))) (pos 0)

@@ -14,9 +14,9 @@ use Rattle.octets.proofs.Choosing.{same, other, if-of, if-eq-of, was-above, was
 use Rattle.packet.specs.Frame.{checksumOf}
 use Rattle.packet.specs.Receipt.{lengthByte, packetAt, strictOf}
 use Rattle.processor.specs.Memory.{Store}
-use Rattle.saves.specs.Stream.{contentOf, behind, tagOf, streamOf, endOf}
+use Rattle.saves.specs.Stream.{contentOf, behind, tagOf, streamOf, endOf, packetIn}
 use Rattle.saves.specs.Means.{packetMeans, frameMeans, allMean}
-use Rattle.saves.specs.Judged.{noFault, receiptOf, packetIn}
+use Rattle.saves.specs.Inside.{noFault, receiptOf}
 use Rattle.saves.specs.Replay.{fieldsMean, Save}
 use Rattle.saves.specs.declared.shape.Shape.{Shape}
 use Rattle.saves.proofs.Streams.{stream-frame, stream-end}

@@ -11,7 +11,7 @@ use Rattle.processor.specs.Memory.{Store, toEeprom, toSettings}
 use Rattle.processor.specs.Change.{writesIn}
 use Rattle.processor.specs.declared.change.Change.{Change}
 use Rattle.saves.specs.Means.{memoryMeans, wordMeans, packetMeans, inPacket}
-use Rattle.saves.specs.Stored.{orNothing}
+use Rattle.saves.specs.Inside.{orNothing}
 
 module _ (p : List ℕ) where
   abbrev Makes : Outcome Store → Type 0

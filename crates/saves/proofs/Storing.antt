@@ -11,11 +11,10 @@ use Rattle.octets.proofs.Choosing.{was-same, refused-accepted}
 use Rattle.octets.proofs.Outcomes.{then-both, same-value, was-picked}
 use Rattle.processor.specs.Memory.{Memory, Store, store, tooLarge}
 use Rattle.saves.specs.declared.shape.Shape.{Shape}
-use Rattle.saves.specs.Stream.{contentOf, behind, tagOf, streamOf, endOf, shapeOf}
+use Rattle.saves.specs.Stream.{contentOf, behind, tagOf, streamOf, endOf, shapeOf, packetIn}
 use Rattle.saves.specs.Means.{packetMeans, frameMeans, allMean}
-use Rattle.saves.specs.Judged.{noFault, receiptOf, packetIn}
+use Rattle.saves.specs.Inside.{noFault, receiptOf, frameWrites, framesWrite}
 use Rattle.saves.specs.Replay.{Save, fieldsMean, readFor, judgedOf, judgedFor, storing}
-use Rattle.saves.specs.Stored.{frameWrites, framesWrite}
 use Rattle.saves.proofs.Streams.{stream-frame, stream-end}
 use Rattle.saves.proofs.Judging.{summed, frame-is}
 use Rattle.saves.proofs.Rising.{store-append}

@@ -23,9 +23,13 @@ pub record Save : Type 0 where
 abbrev pub readFor : Shape → List ℕ → Outcome Save
 readFor shape l = andThen (fieldsMean (shape .eeprom) (shape .settings) (drop 11 l)) (λ (ws : List Store). accepted (record { shape = shape; writes = ws }))
 
--- "judges it against the save's own sizes (over 65,536: 14)"
+-- "(over 65,536: 14)"
+abbrev pub judgedSized : Shape → List ℕ → Outcome Save
+judgedSized shape l = pick (tooLarge (shape .eeprom) (shape .settings)) (refused wrongSizes) (readFor shape l)
+
+-- "judges it against the save's own sizes"
 unfoldable pub judgedOf : List ℕ → Outcome Save
-judgedOf l = andThen (shapeOf l) (λ (shape : Shape). pick (tooLarge (shape .eeprom) (shape .settings)) (refused wrongSizes) (readFor shape l))
+judgedOf l = andThen (shapeOf l) (λ (shape : Shape). judgedSized shape l)
 
 -- "sizes different 14"
 unfoldable pub judgedFor : ℕ → ℕ → List ℕ → Outcome Save

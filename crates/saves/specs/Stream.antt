@@ -1,5 +1,5 @@
 -- Reading the fields of a save: frames, one behind the other, and what stands behind them.
-use Prim.Native.Nat.{ℕ, zero, suc, _+_}
+use Prim.Native.Nat.{ℕ, zero, suc, _+_, _-_}
 use mathlib.Core.List.{List, [], _∷_}
 use lib.ListN.{length, drop}
 use Rattle.octets.specs.Refusals.{wrongField}
@@ -7,6 +7,7 @@ use Rattle.octets.specs.Outcome.{Outcome, accepted, refused}
 use Rattle.octets.specs.Choice.{ifLt, ifEq}
 use Rattle.octets.specs.Number.{at, bigAt}
 use Rattle.octets.specs.Place.{placeAt, partOf}
+use Rattle.packet.specs.Receipt.{lengthByte}
 use Rattle.saves.specs.declared.shape.Shape.{Shape}
 use Rattle.saves.specs.declared.shape.Judged.{Judged}
 use Rattle.saves.specs.declared.shape.Judged.the-variants.{Sound, Refused}
@@ -24,6 +25,10 @@ behind l = drop (3 + lengthOf l) l
 -- the tag of the first field; "a field short" has none, and 0 is no tag
 unfoldable pub tagOf : List ℕ → ℕ
 tagOf l = ifLt (length l) 3 0 (ifLt (length l) (3 + lengthOf l) 0 (at l 0))
+
+-- the packet in a frame, whatever its checksum: "for length byte L, the packet is bytes 1 to L-1"
+abbrev pub packetIn : List ℕ → List ℕ
+packetIn frame = partOf frame (placeAt 1 (lengthByte frame - 1))
 
 -- the frames of the 10 fields that come first, and the rest
 pub record Stream : Type 0 where

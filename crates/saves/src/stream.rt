@@ -3,8 +3,7 @@
 ghost use mathlib.Core.Path.{_≡_};
 ghost use Prim.Native.Nat.{_+_};
 ghost use Rattle.octets.specs.Outcome.{done};
-ghost use Rattle.saves.specs.Stream.{tagOf, lengthOf, contentOf, endOf};
-ghost use Rattle.saves.specs.Judged.{packetIn};
+ghost use Rattle.saves.specs.Stream.{tagOf, lengthOf, contentOf, endOf, packetIn};
 use octets::Done;
 use octets::Place;
 use octets::number;

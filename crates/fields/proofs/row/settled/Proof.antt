@@ -4,7 +4,8 @@ use native.Mathlib.Omega.{arith}
 use Rattle.octets.proofs.Choosing.{below, above}
 use lib.ListN.{length}
 use Rattle.octets.specs.Outcome.{accepted}
-use Rattle.fields.specs.Row.{packetOf, encodedOf, encodedLength, fieldsOf}
+use Rattle.fields.specs.Row.{packetOf, encodedOf, fieldsOf}
+use Rattle.fields.specs.Inside.{encodedLength}
 use borrow.Author.Needs.{needs}
 use Rattle.fields.proofs.row.settled.Statement.{statement}
 use Rattle.fields.proofs.row.settled.Tie as tie

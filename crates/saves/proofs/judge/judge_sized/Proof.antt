@@ -3,8 +3,7 @@ use mathlib.Core.Path.{_≡_, ap, _∙_}
 use lib.ListN.{drop}
 use Rattle.octets.specs.Outcome.{onAccepted, done}
 use Rattle.octets.specs.Place.{partOf}
-use Rattle.saves.specs.Replay.{Save, fieldsMean}
-use Rattle.saves.specs.Judged.{judgedSized}
+use Rattle.saves.specs.Replay.{Save, fieldsMean, judgedSized}
 use Rattle.octets.proofs.Parts.{part-rest}
 use Rattle.saves.proofs.Judging.{only-shape}
 use borrow.Author.Needs.{needs}

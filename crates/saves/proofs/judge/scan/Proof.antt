@@ -12,7 +12,7 @@ use Rattle.packet.specs.Frame.{total, checksumOf}
 use Rattle.packet.specs.Receipt.{lengthByte}
 use Rattle.packet.proofs.Frames.{total-turn}
 use Rattle.saves.specs.Stream.{tagOf}
-use Rattle.saves.specs.Judged.{noFault, receiptOf}
+use Rattle.saves.specs.Inside.{noFault, receiptOf}
 use Rattle.saves.specs.Replay.{fieldsMean}
 use Rattle.saves.proofs.Streams.{tag-whole, cut-behind, behind-shorter}
 use Rattle.saves.proofs.Judging.{leftMean, all-left, none-left, as-long, not-received, not-summed, not-meant, goes-on}

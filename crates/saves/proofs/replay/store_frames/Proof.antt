@@ -7,7 +7,7 @@ use native.Mathlib.Omega.{arith}
 use lib.ListN.{length}
 use Rattle.processor.specs.Memory.{Memory, memory, store as storeAll}
 use Rattle.saves.specs.Stream.{tagOf, streamOf}
-use Rattle.saves.specs.Stored.{framesWrite}
+use Rattle.saves.specs.Inside.{framesWrite}
 use Rattle.saves.proofs.Streams.{tag-whole, cut-behind, behind-shorter}
 use Rattle.saves.proofs.Storing.{none-stored, frame-stored}
 use Rattle.saves.proofs.replay.store_frames.Statement.{statement}

@@ -1,4 +1,4 @@
--- What the enums of effect.rt stand for.
+-- What only private functions promise; a reader who believes only the public contracts can stop before this.
 use Prim.Native.Nat.{ℕ, _*_}
 use mathlib.Core.List.{List}
 use Rattle.octets.specs.Outcome.{Outcome, accepted, refused}
@@ -10,7 +10,7 @@ use Rattle.processor.specs.declared.change.Change.{Change}
 use Rattle.device.specs.declared.effect.Decided.{Decided}
 use Rattle.device.specs.declared.effect.Decided.the-variants.{Does, Refused}
 
--- p is the command's payload
+-- what effect.rt decides; p is the command's payload
 abbrev pub decided : List ℕ → Decided → Outcome Effect
 decided p (Does d) = accepted (effect (d .response) (writesIn p (d .change)))
 decided p (Refused k) = refused k
