@@ -16,7 +16,7 @@ use Rattle.octets.proofs.Parts.{length-part, was-inside}
 use Rattle.fields.specs.Value.{valueBytes, valueOutside}
 use Rattle.fields.specs.declared.value.Value.{Value}
 use Rattle.commands.specs.declared.Commands.{Commands}
-use Rattle.commands.specs.declared.Commands.the-variants.{ReadHardwareId, ReadFloats, WriteMemory, ReadMemory, SetConfig, SetSource, SetMute, SetVolume, WriteBiquad, WriteBiquadBypass, Read, Write as WriteCommand, FirLoadStart, FirLoadData, FirLoadEnd, DiracBypass, BulkLoad, BulkLoadFilterData, Unk07, SwitchMux, Unknown}
+use Rattle.commands.specs.declared.Commands.the-variants.{ReadHardwareId, ReadFloats, WriteMemory, ReadMemory, SetConfig, SetSource, SetMute, SetVolume, WriteBiquad, WriteBiquadBypass, Read, Write, FirLoadStart, FirLoadData, FirLoadEnd, DiracBypass, BulkLoad, BulkLoadFilterData, Unk07, SwitchMux, Unknown}
 use Rattle.responses.specs.declared.Responses.{Responses}
 use Rattle.responses.specs.declared.Responses.the-variants.{Ack}
 use Rattle.processor.specs.Memory.{toEeprom, toSettings}
@@ -59,7 +59,7 @@ module _ (e s : ℕ) where
   within d p (ReadMemory a size) = either-lt Lies _ _ _ _ (λ h. never _) (λ h. tells _)
   within d p (WriteMemory a place) = of-memory p a place
   within d p (ReadFloats a len) = either-lt Lies _ _ _ _ (λ h. never _) (λ h. tells _)
-  within d p (WriteCommand a v) = of-word p (a .val) v
+  within d p (Write a v) = of-word p (a .val) v
   within d p (SetConfig config reset) = of-byte _ _ _
   within d p (SetSource n) = of-byte _ _ _
   within d p (SetMute value) = of-byte _ _ _

@@ -19,7 +19,7 @@ use Rattle.fields.specs.declared.addr.Addr.{Addr}
 use Rattle.fields.specs.declared.value.Value.{Value}
 use Rattle.fields.specs.declared.value.Value.the-variants.{FixedPoint}
 use Rattle.commands.specs.declared.Commands.{Commands}
-use Rattle.commands.specs.declared.Commands.the-variants.{ReadHardwareId, ReadFloats, WriteMemory, ReadMemory, SetConfig, SetSource, SetMute, SetVolume, WriteBiquad, WriteBiquadBypass, Read, Write as WriteCommand, FirLoadStart, FirLoadData, FirLoadEnd, DiracBypass, BulkLoad, BulkLoadFilterData, Unk07, SwitchMux, Unknown}
+use Rattle.commands.specs.declared.Commands.the-variants.{ReadHardwareId, ReadFloats, WriteMemory, ReadMemory, SetConfig, SetSource, SetMute, SetVolume, WriteBiquad, WriteBiquadBypass, Read, Write, FirLoadStart, FirLoadData, FirLoadEnd, DiracBypass, BulkLoad, BulkLoadFilterData, Unk07, SwitchMux, Unknown}
 use Rattle.responses.specs.declared.Responses.{Responses}
 use Rattle.responses.specs.declared.Responses.the-variants.{Ack, Read as ReadAnswer, MemoryData, FloatData, HardwareId, FirLoadSize, ConfigChanged, Unk02}
 use Rattle.responses.specs.declared.Values.the-variants.{One}
@@ -81,7 +81,7 @@ effectOf d p e s ReadHardwareId = accepted (tellsOf (identityOf d))
 effectOf d p e s (ReadMemory a size) = readMemoryDoes e a size
 effectOf d p e s (WriteMemory a place) = writeMemoryDoes p e a place
 effectOf d p e s (ReadFloats a len) = readFloatsDoes s a len
-effectOf d p e s (WriteCommand a v) = writeDoes p s (a .val) v
+effectOf d p e s (Write a v) = writeDoes p s (a .val) v
 effectOf d p e s (SetConfig config reset) = setByte e atPreset config ConfigChanged
 effectOf d p e s (SetSource n) = setByte e atSource n Ack
 effectOf d p e s (SetMute value) = setByte e atMute (bit value) Ack

@@ -4,6 +4,6 @@ pub mod Effect
 pub mod Data
 pub mod Execute
 -- what only private functions promise: a reader who believes only the public contracts can stop here
--- type Effect: response Responses, change Change
--- enum Decided: Does(Effect), Refused(u8)
+-- type Plan: response Responses, change Change
+-- enum Decided: Does(Plan), Refused(u8)
 pub mod Inside

@@ -34,14 +34,15 @@ use responses::Values;
 use views::floats::FloatView;
 use views::memory::MemoryView;
 
-pub struct Effect {
+// What would be done: the answer, and at most one change of the memories.
+pub struct Plan {
     pub response: Responses,
     pub change: Change,
 }
 
 // What a command does, or the number of its refusal.
 pub enum Decided {
-    Does(Effect),
+    Does(Plan),
     Refused(u8),
 }
 
@@ -80,7 +81,7 @@ pub fn decide(device: Device, command: Commands, payload: &[u8], e: usize, s: us
 fn tells(response: Responses) -> Decided
     ensures { λ r. ⌜ r ≡ does response Nothing ⌝ }
 {
-    Decided::Does(Effect {
+    Decided::Does(Plan {
         response,
         change: Change::Nothing,
     })
@@ -158,7 +159,7 @@ fn write_memory(addr: u16, data: Place, payload: &[u8], e: usize) -> Decided
     if e - (addr as usize) < data.len {
         return Decided::Refused(refusal::OUTSIDE);
     }
-    Decided::Does(Effect {
+    Decided::Does(Plan {
         response: Ack,
         change: Change::EepromBytes { addr, data },
     })
@@ -168,7 +169,7 @@ fn set_byte(addr: u16, value: u8, e: usize, response: Responses) -> Decided
     ensures { λ r. ⌜ ((p : List ℕ) → decided p r ≡ setByte e addr value response) × (answerLength r ≤ dataLength response) ⌝ }
 {
     if (addr as usize) < e {
-        return Decided::Does(Effect {
+        return Decided::Does(Plan {
             response,
             change: Change::EepromByte { addr, value },
         });
@@ -188,7 +189,7 @@ fn write_word(addr: u32, value: Value, payload: &[u8], s: usize) -> Decided
             return Decided::Refused(refusal::OUTSIDE);
         }
         let word = word_of(value, payload);
-        return Decided::Does(Effect {
+        return Decided::Does(Plan {
             response: Ack,
             change: Change::SettingsWord { addr, value: word },
         });

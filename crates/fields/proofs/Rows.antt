@@ -65,7 +65,7 @@ sound-at p cells i s h =
       placed = rw (field-at cells i) at (none-at (misplaced (length p)) (fieldsOf cells) i (s .placed) k);
     }
 
--- a field of a sound row
+-- a field of a writable row
 module _ (test : Field → Bool) (f : Field) (after : List Field) where
   none-of : (before : List Field) → anyOf test (before ++ (f ∷ after)) ≡ false → test f ≡ false
   unfolding anyOf

@@ -34,12 +34,12 @@ topBit k = 2 ^ (8 * k - 1)
 unfoldable pub addrAt : ℕ → List ℕ → ℕ → Addr
 addrAt k bytes place = let n = bigAt k bytes place in addrOf (n % 2 ^ (8 * k - 4)) k (leb (topBit k) n)
 
-abbrev pub addrRead : ℕ → List ℕ → Outcome Addr
-addrRead k bytes = ifLt (length bytes) k (refused ends) (accepted (addrAt k bytes 0))
+abbrev pub addrFrom : ℕ → List ℕ → Outcome Addr
+addrFrom k bytes = ifLt (length bytes) k (refused ends) (accepted (addrAt k bytes 0))
 
 -- of a length that the caller names; another than 2 and 3 is refused as when writing
-abbrev pub addrReadAny : ℕ → List ℕ → Outcome Addr
-addrReadAny k bytes = ifEq k 2 (addrRead 2 bytes) (ifEq k 3 (addrRead 3 bytes) (refused addressLength))
+abbrev pub addrFromAny : ℕ → List ℕ → Outcome Addr
+addrFromAny k bytes = ifEq k 2 (addrFrom 2 bytes) (ifEq k 3 (addrFrom 3 bytes) (refused addressLength))
 
 abbrev pub bit : Bool → ℕ
 bit true = 1

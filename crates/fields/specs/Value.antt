@@ -29,8 +29,8 @@ valueAt packet place =
     (Unknown place))
     (Unknown place)
 
-abbrev pub valueRead : List ℕ → Place → Outcome Value
-valueRead packet place = pick (isOutside place (length packet)) (refused outside) (accepted (valueAt packet place))
+abbrev pub valueFrom : List ℕ → Place → Outcome Value
+valueFrom packet place = pick (isOutside place (length packet)) (refused outside) (accepted (valueAt packet place))
 
 -- "Written: Float little-endian; FixedPoint and Int32 big-endian; Int little-endian then two zeros."
 abbrev pub valueBytes : Value → List ℕ → List ℕ

@@ -3,7 +3,7 @@ ghost use mathlib.Core.Path.{_≡_};
 ghost use Prim.Native.Nat.{_*_, _≤_};
 ghost use mathlib.Core.Bool.{true};
 ghost use Rattle.octets.specs.Outcome.{written};
-ghost use Rattle.fields.specs.Addr.{addrOf, widthIf, addrAt, readAddr, addrRead, addrReadAny, bit, wrongLength, addrInto};
+ghost use Rattle.fields.specs.Addr.{addrOf, widthIf, addrAt, readAddr, addrFrom, addrFromAny, bit, wrongLength, addrInto};
 use octets::Written;
 use octets::number;
 use octets::refusal;
@@ -73,7 +73,7 @@ impl Addr {
 
     // The address at the start of a buffer, of two or of three bytes.
     pub fn read(buf: &[u8], len: u8) -> ReadAddr
-        ensures { λ r. ⌜ readAddr r ≡ addrReadAny len (now (buf .entry)) ⌝ }
+        ensures { λ r. ⌜ readAddr r ≡ addrFromAny len (now (buf .entry)) ⌝ }
     {
         if len == 2 {
             return Addr::read_u16(buf);
@@ -85,7 +85,7 @@ impl Addr {
     }
 
     pub fn read_u16(buf: &[u8]) -> ReadAddr
-        ensures { λ r. ⌜ readAddr r ≡ addrRead 2 (now (buf .entry)) ⌝ }
+        ensures { λ r. ⌜ readAddr r ≡ addrFrom 2 (now (buf .entry)) ⌝ }
     {
         if buf.len() < 2 {
             return ReadAddr::Refused(refusal::ENDS);
@@ -94,7 +94,7 @@ impl Addr {
     }
 
     pub fn read_u24(buf: &[u8]) -> ReadAddr
-        ensures { λ r. ⌜ readAddr r ≡ addrRead 3 (now (buf .entry)) ⌝ }
+        ensures { λ r. ⌜ readAddr r ≡ addrFrom 3 (now (buf .entry)) ⌝ }
     {
         if buf.len() < 3 {
             return ReadAddr::Refused(refusal::ENDS);

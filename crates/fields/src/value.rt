@@ -3,7 +3,7 @@ ghost use mathlib.Core.Path.{_≡_};
 ghost use Rattle.octets.specs.Over.{into};
 ghost use Rattle.fields.specs.declared.value.Value.the-variants.{Unknown};
 ghost use Rattle.octets.specs.Outcome.{written};
-ghost use Rattle.fields.specs.Value.{valueAt, readValue, valueRead, valueOutside, valueInto};
+ghost use Rattle.fields.specs.Value.{valueAt, readValue, valueFrom, valueOutside, valueInto};
 use numbers::fixed_point::FixedPoint;
 use numbers::float;
 use octets::Place;
@@ -34,7 +34,7 @@ pub enum ReadValue {
 impl Value {
     // The value at a place of a packet.
     pub fn from_bytes(packet: &[u8], place: Place) -> ReadValue
-        ensures { λ r. ⌜ readValue r ≡ valueRead (now (packet .entry)) place ⌝ }
+        ensures { λ r. ⌜ readValue r ≡ valueFrom (now (packet .entry)) place ⌝ }
     {
         if octets::is_outside(place, packet.len()) {
             return ReadValue::Refused(refusal::OUTSIDE);

@@ -29,7 +29,7 @@ use Rattle.fields.proofs.Again.{From, ended, value}
 use Rattle.fields.proofs.Rows.{sound-of}
 use Rattle.commands.specs.Decode.{r, commandOf, commandBy}
 use Rattle.commands.specs.declared.Commands.{Commands}
-use Rattle.commands.specs.declared.Commands.the-variants.{WriteMemory, Write as WriteCommand}
+use Rattle.commands.specs.declared.Commands.the-variants.{WriteMemory, Write}
 use Rattle.responses.specs.declared.Responses.the-variants.{Ack}
 use Rattle.processor.specs.Memory.{Store, toEeprom, toSettings}
 use Rattle.device.specs.Effect.{effect, effectOf}
@@ -80,14 +80,14 @@ module _ (e s : ℕ) (p : List ℕ) (short : length p ≤ 254) where
         let n : length (take 4 p) ≡ 4 = length-take-le 4 p (omega arith) in
         sym (rw (n, take-append-drop) at (little-behind (take 4 p) (drop 4 p) 4 0))
 
-    reads-write : at p 0 ≡ 0x13 → commandOf p ≡ accepted (WriteCommand (addrAt 3 p 1) v)
+    reads-write : at p 0 ≡ 0x13 → commandOf p ≡ accepted (Write (addrAt 3 p 1) v)
     unfolding commandOf commandBy ifLt ifEq
     reads-write k = rw (k, long)
 
     word-puts : at p 0 ≡ 0x13 → addrAt 3 p 1 .val < s → Puts e s p (toSettings (addrAt 3 p 1 .val) (littleAt 4 p 4))
     word-puts k inside =
         record {
-          command = WriteCommand (addrAt 3 p 1) v;
+          command = Write (addrAt 3 p 1) v;
           reads = reads-write k;
           does = λ d. rw (placed, bytes-are, value-is) (sym (same _ _ _ _ _ (length-drop 4 p ∙ omega arith) (below _ _ _ _ _ inside refl)));
         }

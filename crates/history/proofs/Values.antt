@@ -18,7 +18,7 @@ use Rattle.fields.specs.declared.value.Value.{Value}
 use Rattle.fields.specs.declared.value.Value.the-variants.{Float, FixedPoint, Int, Int32, Unknown as UnknownValue}
 use Rattle.commands.specs.Decode.{commandOf}
 use Rattle.commands.specs.declared.Commands.{Commands}
-use Rattle.commands.specs.declared.Commands.the-variants.{ReadHardwareId, ReadFloats, WriteMemory, ReadMemory, SetConfig, SetSource, SetMute, SetVolume, WriteBiquad, WriteBiquadBypass, Read, Write as WriteCommand, FirLoadStart, FirLoadData, FirLoadEnd, DiracBypass, BulkLoad, BulkLoadFilterData, Unk07, SwitchMux, Unknown}
+use Rattle.commands.specs.declared.Commands.the-variants.{ReadHardwareId, ReadFloats, WriteMemory, ReadMemory, SetConfig, SetSource, SetMute, SetVolume, WriteBiquad, WriteBiquadBypass, Read, Write, FirLoadStart, FirLoadData, FirLoadEnd, DiracBypass, BulkLoad, BulkLoadFilterData, Unk07, SwitchMux, Unknown}
 use Rattle.responses.specs.declared.Responses.{Responses}
 use Rattle.responses.specs.declared.Responses.the-variants.{Ack}
 use Rattle.processor.specs.Memory.{toEeprom, toSettings}
@@ -69,7 +69,7 @@ module _ (d : Device) (e s : ℕ) where
     effect-words (ReadMemory a size) = either-lt WordsOf _ _ _ _ (λ h. tt) (λ h. tt)
     effect-words (WriteMemory a part) = of-memory a part
     effect-words (ReadFloats a len) = either-lt WordsOf _ _ _ _ (λ h. tt) (λ h. tt)
-    effect-words (WriteCommand a v) = of-word (a .val) v
+    effect-words (Write a v) = of-word (a .val) v
     effect-words (SetConfig config reset) = of-byte _ _ _
     effect-words (SetSource n) = of-byte _ _ _
     effect-words (SetMute value) = of-byte _ _ _

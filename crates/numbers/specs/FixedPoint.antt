@@ -35,7 +35,7 @@ abbrev pub rangeEnd : Bool → ℤ
 rangeEnd false = pos (2 ^ 63 - 1)
 rangeEnd true = negsuc (2 ^ 63 - 1)
 
--- by sign, exponent and digits: an infinity is held at its end of the range, "NaN 0"
+-- by sign, exponent and fraction: an infinity is held at its end of the range, "NaN 0"
 unfoldable pub encoded : Bool → ℕ → ℕ → ℤ
 encoded s x t = ifEq x 255 (ifEq t 0 (rangeEnd s) (pos 0)) (held (cutSum s (magnitude x t)))
 

@@ -14,7 +14,7 @@ exponent bits = bits / 2 ^ 23 % 2 ^ 8
 abbrev pub fraction : ℕ → ℕ
 fraction bits = bits % 2 ^ 23
 
--- the size of a finite pattern with the exponent x and the digits t, in units of 2 ^ -149
+-- the size of a finite pattern with the exponent x and the fraction t, in units of 2 ^ -149
 unfoldable pub magnitude : ℕ → ℕ → ℕ
 magnitude zero t = t
 magnitude (suc x) t = (2 ^ 23 + t) * 2 ^ x
