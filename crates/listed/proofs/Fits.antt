@@ -14,10 +14,10 @@ use Rattle.octets.proofs.Outcomes.{then-both, same-value}
 use Rattle.octets.proofs.Parts.{length-part}
 use Rattle.packet.specs.Receipt.{lengthByte}
 use Rattle.fields.specs.Addr.{addrAt}
-use Rattle.processor.specs.Memory.{Write, bytes, word}
-use Rattle.saves.specs.Stream.{lengthOf, contentOf, behind, tagOf, streamOf, endOf}
+use Rattle.processor.specs.Memory.{Store, toEeprom, toSettings}
+use Rattle.saves.specs.Stream.{lengthOf, contentOf, behind, tagOf, streamOf, endOf, packetIn}
 use Rattle.saves.specs.Means.{packetMeans, memoryMeans, wordMeans, frameMeans, allMean}
-use Rattle.saves.specs.Judged.{receiptOf, packetIn}
+use Rattle.saves.specs.Inside.{receiptOf}
 use Rattle.saves.specs.Replay.{Save, judgedOf}
 use Rattle.text.specs.Digits.{decimal}
 use Rattle.text.proofs.Digits.{decimal-short, length-hex}
@@ -53,10 +53,10 @@ short n h = go (lt-or-le n 10)
 
 -- ---- one frame
 -- the line of what is meant has room in so many bytes twice
-abbrev Fits : Write → ℕ → Outcome Write → Type 0
+abbrev Fits : Store → ℕ → Outcome Store → Type 0
 Fits w n o = o ≡ accepted w → length (writeLine w) ≤ 2 * n
 
-module _ (e s : ℕ) (eh : e ≤ 65536) (sh : s ≤ 65536) (w : Write) where
+module _ (e s : ℕ) (eh : e ≤ 65536) (sh : s ≤ 65536) (w : Store) where
   memory-fits : (p : List ℕ) → 3 ≤ length p → Fits w (5 + length p) (memoryMeans e p)
   memory-fits p long h =
       let m = was-above _ _ _ _ h in
@@ -95,14 +95,14 @@ unfolding contentOf
 length-content l h = length-part l (placeAt 3 (lengthOf l)) h
 
 module _ (e s : ℕ) (eh : e ≤ 65536) (sh : s ≤ 65536) where
-  abbrev LinesFit : List ℕ → List Write → Type 0
+  abbrev LinesFit : List ℕ → List Store → Type 0
   LinesFit l ws = allMean e s (streamOf l .frames) ≡ accepted ws → length (writeLines ws) + 2 * length (streamOf l .tail) ≤ 2 * length l
 
-  none-fit : (l : List ℕ) (ws : List Write) → (tagOf l ≡ 0x10 → ⊥) → LinesFit l ws
+  none-fit : (l : List ℕ) (ws : List Store) → (tagOf l ≡ 0x10 → ⊥) → LinesFit l ws
   none-fit l ws g m = let none = rw (stream-end l g) at m in rw (stream-end l g, ← same-value none) (omega arith)
 
   -- a frame, and those behind it
-  frame-first : (l : List ℕ) (ws : List Write) → ((vs : List Write) → LinesFit (behind l) vs) → tagOf l ≡ 0x10 → LinesFit l ws
+  frame-first : (l : List ℕ) (ws : List Store) → ((vs : List Store) → LinesFit (behind l) vs) → tagOf l ≡ 0x10 → LinesFit l ws
   frame-first l ws behind-fits g m =
       let rest = streamOf (behind l) .frames in
       let t = then-both (frameMeans e s (contentOf l)) (λ w. andThen (allMean e s rest) (λ ws. accepted (w ∷ ws))) (rw (stream-frame l g) at m) in
@@ -114,16 +114,16 @@ module _ (e s : ℕ) (eh : e ≤ 65536) (sh : s ≤ 65536) where
       let more = behind-fits (u .value) (u .first) in
       rw (stream-frame l g, ← same-value (u .second), length-append) (omega arith)
 
-  lines-fit : (n : ℕ) (l : List ℕ) (ws : List Write) → length l ≤ n → LinesFit l ws
+  lines-fit : (n : ℕ) (l : List ℕ) (ws : List Store) → length l ≤ n → LinesFit l ws
   lines-fit zero l ws h = none-fit l ws (λ g. omega (arith, tag-whole l g))
   lines-fit (suc n) l ws h = go (ℕ-discrete (tagOf l) 0x10) (λ g vs. lines-fit n (behind l) vs (omega (arith, behind-shorter l g)))
     where
-      go : Dec (tagOf l ≡ 0x10) → (tagOf l ≡ 0x10 → (vs : List Write) → LinesFit (behind l) vs) → LinesFit l ws
+      go : Dec (tagOf l ≡ 0x10) → (tagOf l ≡ 0x10 → (vs : List Store) → LinesFit (behind l) vs) → LinesFit l ws
       go (no g) more = none-fit l ws g
       go (yes g) more = frame-first l ws (more g) g
 
 -- ---- the save
-no-more : (ws : List Write) → length ws ≤ length (writeLines ws)
+no-more : (ws : List Store) → length ws ≤ length (writeLines ws)
 no-more [] = omega arith
 no-more (bytes a b ∷ ws) = rw (length-append, length-pair) (omega (arith, no-more ws))
 no-more (word a v ∷ ws) = rw (length-append, length-setting) (omega (arith, no-more ws))

@@ -8,19 +8,19 @@ use Rattle.octets.specs.Outcome.{Outcome, accepted, refused, onAccepted, andThe
 use Rattle.octets.specs.Over.{into, settle}
 use Rattle.octets.proofs.Choosing.{refused-accepted}
 use Rattle.octets.proofs.Outcomes.{then-both, same-value}
-use Rattle.processor.specs.Memory.{Write}
+use Rattle.processor.specs.Memory.{Store}
 use Rattle.saves.specs.declared.shape.Shape.{Shape}
 use Rattle.saves.specs.Stream.{contentOf, behind, tagOf, streamOf}
 use Rattle.saves.specs.Means.{frameMeans, allMean}
 use Rattle.saves.specs.Replay.{Save, judgedOf}
-use Rattle.saves.specs.Stored.{frameWrites, framesWrite}
+use Rattle.saves.specs.Inside.{frameWrites, framesWrite}
 use Rattle.listed.specs.Listing.{writeLines, textOf}
 use Rattle.listed.specs.Inside.{linesOf, framesText}
 use Rattle.listed.proofs.Fits.{text-fits}
 use Rattle.saves.proofs.Streams.{stream-frame, stream-end}
 use Rattle.saves.proofs.Storing.{own, own-writes}
 
-lines-append : (v w : List Write) → writeLines (v ++ w) ≡ writeLines v ++ writeLines w
+lines-append : (v w : List Store) → writeLines (v ++ w) ≡ writeLines v ++ writeLines w
 lines-append [] w = refl
 lines-append (a ∷ v) w = rw (lines-append v w, append-assoc)
 
@@ -46,7 +46,7 @@ count-none l h = rw (stream-end l h)
 -- ---- a sound save
 module _ (e s : ℕ) where
   -- each frame means one write
-  means-count : (fs : List (List ℕ)) {ws : List Write} → allMean e s fs ≡ accepted ws → length fs ≡ length ws
+  means-count : (fs : List (List ℕ)) {ws : List Store} → allMean e s fs ≡ accepted ws → length fs ≡ length ws
   means-count [] h = ap length (same-value h)
   means-count (f ∷ fs) h =
       let t = then-both (frameMeans e s f) (λ w. andThen (allMean e s fs) (λ ws. accepted (w ∷ ws))) h in

@@ -6,7 +6,7 @@ use lib.ListN.{length}
 use Rattle.octets.specs.Over.{overAt}
 use Rattle.saves.specs.declared.shape.Shape.{Shape}
 use Rattle.saves.specs.Stream.{streamOf}
-use Rattle.saves.specs.Stored.{framesWrite}
+use Rattle.saves.specs.Inside.{framesWrite}
 use Rattle.listed.specs.Listing.{writeLines, textFor}
 
 -- Where a page has room for it, a text stands there from a place to the end that is told.

@@ -8,7 +8,7 @@ use Rattle.octets.specs.Outcome.{Outcome, refused, onAccepted}
 use Rattle.octets.specs.Choice.{ifLt}
 use Rattle.octets.specs.Over.{settle}
 use Rattle.text.specs.Digits.{decimal, hexDigits}
-use Rattle.processor.specs.Memory.{Write, bytes, word}
+use Rattle.processor.specs.Memory.{Store, toEeprom, toSettings}
 use Rattle.saves.specs.declared.shape.Shape.{Shape}
 use Rattle.saves.specs.Replay.{Save, judgedOf}
 
@@ -43,16 +43,16 @@ unfoldable pub endLine : ℕ → List ℕ
 endLine n = endName ++ (decimal n ++ lineEnd)
 
 -- "address and byte count; address and word in eight upper-case hex digits"
-abbrev pub writeLine : Write → List ℕ
-writeLine (bytes a b) = pairLine memoryName a (length b)
-writeLine (word a w) = settingLine a w
+abbrev pub writeLine : Store → List ℕ
+writeLine (toEeprom a b) = pairLine memoryName a (length b)
+writeLine (toSettings a w) = settingLine a w
 
-abbrev pub writeLines : List Write → List ℕ
+abbrev pub writeLines : List Store → List ℕ
 writeLines [] = []
 writeLines (w ∷ ws) = writeLine w ++ writeLines ws
 
 -- "E and S; .. frame count"
-unfoldable pub textFor : Shape → List Write → ℕ → List ℕ
+unfoldable pub textFor : Shape → List Store → ℕ → List ℕ
 textFor shape ws n = pairLine shapeName (shape .eeprom) (shape .settings) ++ (writeLines ws ++ endLine n)
 
 -- each frame is one write

@@ -10,12 +10,12 @@ ghost use Rattle.octets.specs.Over.{into};
 ghost use Rattle.text.specs.Digits.{decimal, hexDigits};
 ghost use Rattle.processor.specs.Change.{writesIn};
 ghost use Rattle.saves.specs.Stream.{streamOf};
-ghost use Rattle.saves.specs.Stored.{frameWrites};
+ghost use Rattle.saves.specs.Inside.{frameWrites};
 ghost use Rattle.listed.specs.Listing.{space, lineEnd, pairLine, settingLine, endLine, writeLines, listedInto};
 ghost use Rattle.listed.specs.Inside.{Adds, linesOf, framesText};
 use octets::Written;
 use octets::refusal;
-use processor::write::Change;
+use processor::change::Change;
 use saves::judge::judge;
 use saves::means::Meant;
 use saves::means::meaning_of;
@@ -103,7 +103,7 @@ fn add_lines(fields: &[u8], e: usize, s: usize, at: usize, page: &mut [u8]) -> A
 fn add_frame(frame: &[u8], e: usize, s: usize, at: usize, page: &mut [u8]) -> usize
     ensures { λ r. ⌜ Adds (writeLines (frameWrites e s (now (frame .entry)))) at (now (page .entry)) r (now (page .exit)) ⌝ }
 {
-    let packet = stream::packet_of(frame);
+    let packet = stream::packet_in(frame);
     match meaning_of(packet, e, s) {
         Meant::Is(change) => add_change(change, packet, at, page),
         Meant::Refused(_) => at,
@@ -115,12 +115,12 @@ fn add_change(change: Change, packet: &[u8], at: usize, page: &mut [u8]) -> usiz
 {
     match change {
         Change::Nothing => at,
-        Change::Byte { addr, value: _ } => add_pair(b"memory ", addr as usize, 1, at, page),
-        Change::Bytes { addr, data } => {
+        Change::EepromByte { addr, value: _ } => add_pair(b"memory ", addr as usize, 1, at, page),
+        Change::EepromBytes { addr, data } => {
             let bytes = octets::part(packet, data);
             add_pair(b"memory ", addr as usize, bytes.len(), at, page)
         }
-        Change::Word { addr, value } => add_setting(addr as usize, value, at, page),
+        Change::SettingsWord { addr, value } => add_setting(addr as usize, value, at, page),
     }
 }
 
