@@ -66,6 +66,15 @@ class Function:
         yield self.short
 
 
+def head_of(lines, start, indent):
+    """A function from its name to where its body begins."""
+    for i in range(start, len(lines)):
+        line = lines[i].rstrip()
+        if line == indent + "{" or line.endswith(" {") and not re.match(r"\s*(requires|ensures)", line):
+            return "\n".join(lines[start:i + 1])
+    return lines[start]
+
+
 def functions(crate):
     """The functions of a crate in order; public is what a caller outside of it can name."""
     src = os.path.join(CRATES, crate, "src")
@@ -85,8 +94,7 @@ def functions(crate):
             owner = block.group(1) if block else None if line == "}" else owner
             m = FN.match(line)
             if m:
-                head = "\n".join(lines[i:i + 16])
-                said = re.search(r"\) -> ([^\n{]+)", head.split("\n" + m.group(1) + "{")[0])
+                said = re.search(r"\) -> ([^\n{]+)", head_of(lines, i, m.group(1)))
                 answer = said.group(1).strip() if said else ""
                 inside = owner if m.group(1) else None
                 yield Function(crate, module, inside, m.group(3), bool(m.group(2)) and open_to_all, answer)
@@ -124,6 +132,11 @@ def wrong_programs(crate):
             raise Unfit(block.split("\n")[0])
         file, function, why, old, new = m.groups()
         yield file, function, why, old.strip(), new.strip()
+
+
+def wrong_count(crate):
+    path = os.path.join(WRONG, crate + ".txt")
+    return len(re.split(r"\n\s*\n", text_of(path).strip())) if os.path.exists(path) else 0
 
 
 def changed(text, function, old, new):
