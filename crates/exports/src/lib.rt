@@ -1,5 +1,5 @@
-// The numbers for callers in C or Rust, patterns in and patterns out: what compare/rust/all and the
-// benchmarks link.
+// The numbers for callers in C or Rust, patterns in and patterns out: what compare/rust/all and
+// the benchmarks link.
 ghost use mathlib.Core.Path.{_≡_};
 ghost use Rattle.numbers.specs.FixedPoint.{codeOf, bitsOfCode};
 use numbers::fixed_point::FixedPoint;
