@@ -67,7 +67,7 @@ module _ (e s : ℕ) (eh : e ≤ 65536) (sh : s ≤ 65536) (w : Store) where
   word-fits : (p : List ℕ) → length p ≡ 8 → Fits w (5 + length p) (wordMeans s p)
   word-fits p long = either-lt (Fits w (5 + length p)) (addrAt 3 p 1 .val) s _ _ inside (λ g h. absurd (refused-accepted h))
     where
-      inside : addrAt 3 p 1 .val < s → Fits w (5 + length p) (accepted (word (addrAt 3 p 1 .val) (littleAt 4 p 4)))
+      inside : addrAt 3 p 1 .val < s → Fits w (5 + length p) (accepted (toSettings (addrAt 3 p 1 .val) (littleAt 4 p 4)))
       inside g h = let a = five (addrAt 3 p 1 .val) (omega arith) in rw (← same-value h, length-setting) (omega arith)
 
   packet-fits : (p : List ℕ) → Fits w (5 + length p) (packetMeans e s p)
@@ -125,8 +125,8 @@ module _ (e s : ℕ) (eh : e ≤ 65536) (sh : s ≤ 65536) where
 -- ---- the save
 no-more : (ws : List Store) → length ws ≤ length (writeLines ws)
 no-more [] = omega arith
-no-more (bytes a b ∷ ws) = rw (length-append, length-pair) (omega (arith, no-more ws))
-no-more (word a v ∷ ws) = rw (length-append, length-setting) (omega (arith, no-more ws))
+no-more (toEeprom a b ∷ ws) = rw (length-append, length-pair) (omega (arith, no-more ws))
+no-more (toSettings a v ∷ ws) = rw (length-append, length-setting) (omega (arith, no-more ws))
 
 length-last : (n : ℕ) (l : List ℕ) → endOf n l ≡ accepted tt → length l ≡ 7
 unfolding endOf

@@ -6,7 +6,7 @@ use mathlib.Core.List.{List, [], _∷_, _++_}
 use native.Mathlib.Nat.{div-one}
 use native.Mathlib.Omega.{arith}
 use lib.ListN.{length}
-use Rattle.octets.specs.Number.{Bytes}
+use Rattle.octets.specs.Number.{Octets}
 use Rattle.octets.specs.Choice.{ifLt, ifEq}
 use Rattle.octets.proofs.Choosing.{below, above, other, if-of, lt-or-le}
 use Rattle.text.specs.declared.Number.{Number}
@@ -58,7 +58,7 @@ hex-back d h = go (lt-or-le d 10)
     go (inl g) = rw (← below d 10 (48 + d) (55 + d) (48 + d) g refl) (digit-back d g)
     go (inr g) = rw (← above d 10 (48 + d) (55 + d) (55 + d) g refl) (sym (above _ _ _ _ _ (omega arith) (above _ _ _ _ _ (omega arith) (above _ _ _ _ _ (omega arith) (below _ _ _ _ _ (omega arith) (omega arith))))))
 
-pub pairs-back : (l : List ℕ) → Bytes l → pairsIn (pairsOf l) ≡ l
+pub pairs-back : (l : List ℕ) → Octets l → pairsIn (pairsOf l) ≡ l
 unfolding pairsIn pairsOf hexDigits
 pairs-back [] h = refl
 pairs-back (b ∷ l) h =
