@@ -1,32 +1,13 @@
 // The tester's console: a request a line on standard input, an answer a line on standard output.
 // docs/BENCH.md describes its language. Nothing is decided here but how a line is read and how an
 // answer is written: every answer is a library's.
-mod answers;
-mod calls;
-mod commanding;
 mod console;
-mod devices;
-mod dialects;
-mod encoding;
-mod frames;
-mod line;
-mod numeric;
-mod processing;
-mod records;
-mod reply;
+mod put;
 mod request;
-mod responding;
-mod row;
-mod saving;
-mod state;
-mod status;
-mod values;
-mod viewing;
-mod word;
 
 fn main() {
     let mut input = [0u8; 65536];
-    let mut output = [0u8; 262144];
+    let mut output = [0u8; 131072];
     // one more than a device takes, so that a memory that is too large can be lent
     let mut eeprom = [0xffu8; 65537];
     let mut settings = [0u32; 65537];

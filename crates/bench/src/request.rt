@@ -1,111 +1,101 @@
-// One request: its verb says which part of the library answers it.
-use crate::commanding;
-use crate::devices;
-use crate::dialects;
-use crate::encoding;
-use crate::frames;
-use crate::line::first;
-use crate::line::rest;
-use crate::numeric;
-use crate::processing;
-use crate::reply;
-use crate::responding;
-use crate::state::Answered;
-use crate::state::State;
-use crate::state::same;
-use crate::status;
-use crate::values;
-use crate::viewing;
+// One request: read by the table, answered by the part whose verb it is, and put by the table.
+use crate::put::put;
+use bench_device::state::State;
+use bench_words::Answer;
+use bench_words::Words;
+use bench_words::answer::one;
+use bench_words::answer::plain;
+use bench_words::form;
+use bench_words::head;
+use bench_words::low;
+use bench_words::read::read;
+use libc::STDOUT_FILENO;
 
-// Puts the answer to a line, and a line end, at the start of out, and answers how many bytes that
-// takes. A line that is too long has lost its start.
+// The verbs up to this one need no processor.
+const LAST_OF_CODEC: usize = 41;
+
+// Writes the answer to a line, and answers what is held after it. A line that is too long has lost
+// its start; a remark and an empty line are answered by themselves.
 pub fn answer(
     line: &[u8],
     long: bool,
     state: State,
+    output: &mut [u8],
     eeprom: &mut [u8],
     settings: &mut [u32],
     kept: &mut [u8],
-    out: &mut [u8],
-) -> Answered {
-    let answered = answer_text(line, long, state, eeprom, settings, kept, out);
-    let state = answered.state;
-    same(reply::text(b"\n", out, answered.end), state)
-}
-
-// A remark and an empty line are answered by themselves.
-fn answer_text(
-    line: &[u8],
-    long: bool,
-    state: State,
-    eeprom: &mut [u8],
-    settings: &mut [u32],
-    kept: &mut [u8],
-    out: &mut [u8],
-) -> Answered {
+) -> State {
     if long {
-        return same(reply::text(b"bad line: too long", out, 0), state);
+        io::write_all(STDOUT_FILENO, b"bad line: too long\n");
+        return state;
     }
     if line.len() == 0 || line[0] == b'#' {
-        return same(reply::text(line, out, 0), state);
+        io::write_all(STDOUT_FILENO, line);
+        io::write_all(STDOUT_FILENO, b"\n");
+        return state;
     }
-    let answered = processing::by_verb(first(line), rest(line), state, eeprom, settings, kept, out);
-    if 0 < answered.end {
-        return answered;
-    }
-    same(by_verb(first(line), rest(line), out), state)
+    asked(line, state, output, eeprom, settings, kept)
 }
 
-// Each part is asked in turn whether the verb is its own.
-fn by_verb(verb: &[u8], args: &[u8], out: &mut [u8]) -> usize {
-    let end = frames::by_verb(verb, args, out);
-    if 0 < end {
-        return end;
-    }
-    let end = numeric::by_verb(verb, args, out);
-    if 0 < end {
-        return end;
-    }
-    let end = of_commands(verb, args, out);
-    if 0 < end {
-        return end;
-    }
-    let end = devices::by_verb(verb, args, out);
-    if 0 < end {
-        return end;
-    }
-    let end = viewing::by_verb(verb, args, out);
-    if 0 < end {
-        return end;
-    }
-    let end = of_responses(verb, args, out);
-    if 0 < end {
-        return end;
-    }
-    reply::text(b"bad verb", out, 0)
+fn asked(
+    line: &[u8],
+    state: State,
+    output: &mut [u8],
+    eeprom: &mut [u8],
+    settings: &mut [u32],
+    kept: &mut [u8],
+) -> State {
+    let mut bytes = [0u8; 2048];
+    let mut lent = [0xeeu8; 4096];
+    let words = read(line, &mut bytes);
+    answered(
+        words,
+        state,
+        &bytes,
+        &mut lent,
+        output,
+        eeprom,
+        settings,
+        kept,
+    )
 }
 
-// Commands, and what they are made of.
-fn of_commands(verb: &[u8], args: &[u8], out: &mut [u8]) -> usize {
-    let end = values::by_verb(verb, args, out);
-    if 0 < end {
-        return end;
+fn answered(
+    words: Words,
+    state: State,
+    bytes: &[u8; 2048],
+    lent: &mut [u8; 4096],
+    output: &mut [u8],
+    eeprom: &mut [u8],
+    settings: &mut [u32],
+    kept: &mut [u8],
+) -> State {
+    if words.verb == 0 || 0 < words.bad {
+        put_misread(words.verb, words.bad, output);
+        return state;
     }
-    let end = commanding::by_verb(verb, args, out);
-    if 0 < end {
-        return end;
+    if words.verb <= LAST_OF_CODEC {
+        let answer = bench_codec::ask(words, bytes, lent);
+        put_answer(answer, words.room, bytes, lent, output);
+        return state;
     }
-    let end = encoding::by_verb(verb, args, out);
-    if 0 < end {
-        return end;
-    }
-    dialects::by_verb(verb, args, out)
+    let asked = bench_device::ask(words, bytes, lent, state, eeprom, settings, kept);
+    let answer = asked.answer;
+    let after = asked.state;
+    put_answer(answer, words.room, bytes, lent, output);
+    after
 }
 
-fn of_responses(verb: &[u8], args: &[u8], out: &mut [u8]) -> usize {
-    let end = responding::by_verb(verb, args, out);
-    if 0 < end {
-        return end;
+// What is said of a line that is no request.
+fn put_misread(verb: usize, bad: usize, output: &mut [u8]) {
+    if verb == 0 {
+        put(plain(form::BAD_VERB), b"", b"", output);
+        return;
     }
-    status::by_verb(verb, args, out)
+    put(one(form::BAD_ARGUMENT, low(bad)), b"", b"", output);
+}
+
+// The output of a call is so much of what is lent as the request asks for.
+fn put_answer(answer: Answer, room: usize, bytes: &[u8], lent: &[u8], output: &mut [u8]) {
+    put(answer, bytes, head(lent, low(room)), output);
 }

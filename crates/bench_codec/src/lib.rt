@@ -1,0 +1,34 @@
+// The bench's requests that need no processor, by the numbers of their verbs: each calls its crate.
+mod on_commands;
+mod on_facts;
+mod on_fields;
+mod on_packet;
+mod on_responses;
+mod on_views;
+
+use bench_words::*;
+
+// Answers a request. Its bytes lie in `bytes`, and what it writes goes into the room that it asks
+// for at the start of `lent`.
+pub fn ask(words: Words, bytes: &[u8], lent: &mut [u8]) -> Answer {
+    let room = words.room;
+    if lent.len() < room {
+        return asked(words, bytes, lent);
+    }
+    asked(words, bytes, &mut lent[0..room])
+}
+
+fn asked(words: Words, bytes: &[u8], out: &mut [u8]) -> Answer {
+    let verb = words.verb;
+    let n = words.from(0);
+    match verb {
+        1..=9 => on_packet::ask(verb, n, bytes, out),
+        10..=13 => on_fields::ask(verb, n, bytes, out),
+        14..=18 => on_commands::ask(words, n, bytes, out),
+        19..=20 => on_commands::of_dialect(verb, n),
+        21..=26 => on_facts::ask(verb, n),
+        27..=30 => on_views::ask(verb, n, bytes),
+        31..=32 => on_views::join(words, bytes, out),
+        _ => on_responses::ask(words, n, bytes, out),
+    }
+}

@@ -1,0 +1,42 @@
+// Requests over the crate fields: addresses and values.
+use bench_words::answer::*;
+use bench_words::values::*;
+use bench_words::*;
+use fields::addr::Addr;
+use fields::addr::ReadAddr;
+use fields::value::ReadValue;
+use fields::value::Value;
+
+pub fn ask(verb: usize, n: Numbers, bytes: &[u8], out: &mut [u8]) -> Answer {
+    match verb {
+        10 => read_addr(Addr::read(head(bytes, n.b), byte(n.a))),
+        11 => read_value(Value::from_bytes(head(bytes, n.a), place(n.b, n.c))),
+        12 => written(addr_of(n.b, n.c, n.d).write(out)),
+        _ => written(value_of(n.c, n.d, n.e).into_bytes(head(bytes, n.a), out)),
+    }
+}
+
+fn read_addr(read: ReadAddr) -> Answer {
+    match read {
+        ReadAddr::Is(addr) => of_addr(addr),
+        ReadAddr::Refused(number) => refused(number),
+    }
+}
+
+pub fn of_addr(addr: Addr) -> Answer {
+    fill(
+        form::ADDRESS,
+        of(addr.len as u32, addr.extra_bit as u32, addr.val, 0),
+    )
+}
+
+pub fn of_value(one: Value) -> Answer {
+    fill(form::VALUE, value(one))
+}
+
+pub fn read_value(read: ReadValue) -> Answer {
+    match read {
+        ReadValue::Is(one) => of_value(one),
+        ReadValue::Refused(number) => refused(number),
+    }
+}

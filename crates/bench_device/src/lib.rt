@@ -1,0 +1,223 @@
+// The bench's requests over one processor, by the numbers of their verbs: it holds how much of two
+// memories it lends, the device, the tally, and a save.
+mod look;
+mod make;
+pub mod state;
+
+use crate::state::Asked;
+use crate::state::State;
+use crate::state::held;
+use crate::state::same;
+use crate::state::with_tally;
+use bench_words::answer::*;
+use bench_words::records::*;
+use bench_words::*;
+use device::execute;
+use device::execute::Executed;
+use octets::Done;
+use octets::Written;
+use processor::Device;
+use processor::eeprom as memory;
+use saves::judge;
+use saves::replay;
+use saves::save;
+use saves::shape::Judged;
+use tally::Tally;
+use tally::receive::receive_lending;
+
+// Answers a request on what is lent of the two memories. Its bytes lie in `bytes`, and what it writes
+// goes into the room that it asks for at the start of `lent`.
+pub fn ask(
+    words: Words,
+    bytes: &[u8],
+    lent: &mut [u8],
+    state: State,
+    eeprom: &mut [u8],
+    settings: &mut [u32],
+    kept: &mut [u8],
+) -> Asked {
+    let out = front(lent, words.room);
+    let eeprom = front(eeprom, state.eeprom);
+    let settings = front_words(settings, state.settings);
+    let n = words.from(0);
+    let verb = words.verb;
+    match verb {
+        42..=47 => changed(words, bytes, out, state, eeprom, settings),
+        59 => keep(n.a, state, &eeprom[..], &settings[..], kept),
+        60 | 61 | 65 => {
+            let saved = head(&kept[..], low(state.kept));
+            same(on_save(verb, n, saved, out, eeprom, settings), state)
+        }
+        62..=64 => same(
+            on_save(verb, n, head(bytes, n.a), out, eeprom, settings),
+            state,
+        ),
+        _ => same(
+            call(words, bytes, out, state.device, eeprom, settings),
+            state,
+        ),
+    }
+}
+
+// The first n bytes of a memory, or all of it.
+fn front(memory: &mut [u8], n: usize) -> &mut [u8] {
+    if memory.len() < n {
+        return memory;
+    }
+    &mut memory[0..n]
+}
+
+fn front_words(memory: &mut [u32], n: usize) -> &mut [u32] {
+    if memory.len() < n {
+        return memory;
+    }
+    &mut memory[0..n]
+}
+
+// Requests that change what is held beside the memories.
+fn changed(
+    words: Words,
+    bytes: &[u8],
+    out: &mut [u8],
+    state: State,
+    eeprom: &mut [u8],
+    settings: &mut [u32],
+) -> Asked {
+    let n = words.from(0);
+    let verb = words.verb;
+    match verb {
+        42 => same(plain(form::DONE), lending(state, n.a, n.b)),
+        43 => make::bare(n, state, eeprom, settings),
+        44 => make::new(n, head(bytes, n.e), state, eeprom, settings),
+        45 => send(head(bytes, n.a), out, state, eeprom, settings),
+        46 => same(counts(state), state),
+        _ => same(plain(form::DONE), with_tally(state, Tally::zeroed())),
+    }
+}
+
+fn lending(state: State, eeprom: u32, settings: u32) -> State {
+    held(
+        eeprom as usize,
+        settings as usize,
+        state.kept,
+        state.device,
+        state.tally,
+    )
+}
+
+fn send(
+    frame: &[u8],
+    out: &mut [u8],
+    state: State,
+    eeprom: &mut [u8],
+    settings: &mut [u32],
+) -> Asked {
+    let device = state.device;
+    let before = state.tally;
+    let counted = receive_lending(before, device, frame, eeprom, settings, out);
+    let answer = counted.answer;
+    let after = counted.tally;
+    same(written(answer), with_tally(state, after))
+}
+
+fn counts(state: State) -> Answer {
+    let tally = state.tally;
+    fill(form::TALLY, of(tally.accepted, tally.refused, 0, 0))
+}
+
+// A save that is refused leaves the one that is kept.
+fn keep(room: u32, state: State, eeprom: &[u8], settings: &[u32], kept: &mut [u8]) -> Asked {
+    match save::save(eeprom, settings, front(kept, room as usize)) {
+        Written::Bytes(n) => same(
+            number(low(n)),
+            held(state.eeprom, state.settings, n, state.device, state.tally),
+        ),
+        Written::Refused(k) => same(refused(k), state),
+    }
+}
+
+// Requests over a save, that of the request or the one that is kept.
+fn on_save(
+    verb: usize,
+    n: Numbers,
+    saved: &[u8],
+    out: &mut [u8],
+    eeprom: &mut [u8],
+    settings: &mut [u32],
+) -> Answer {
+    match verb {
+        60 => look::peek(octets::part(saved, place(n.a, n.b)), out),
+        61 | 62 => done(replay::replay(eeprom, settings, saved)),
+        63 => judged(judge::judge(saved)),
+        _ => written(listed::list(saved, out)),
+    }
+}
+
+fn judged(judged: Judged) -> Answer {
+    match judged {
+        Judged::Sound(shape) => fill(form::PAIR, of(low(shape.eeprom), low(shape.settings), 0, 0)),
+        Judged::Refused(number) => refused(number),
+    }
+}
+
+// Requests over the device and its memories.
+fn call(
+    words: Words,
+    bytes: &[u8],
+    out: &mut [u8],
+    device: Device,
+    eeprom: &mut [u8],
+    settings: &mut [u32],
+) -> Answer {
+    let n = words.from(0);
+    let verb = words.verb;
+    match verb {
+        48 => executed(device, words, head(bytes, n.a), eeprom, settings, out),
+        49 => written(execute::execute_into(
+            device,
+            command_of(words.from(2)),
+            head(bytes, n.a),
+            eeprom,
+            settings,
+            out,
+        )),
+        50 => look::peek(octets::part(&eeprom[..], place(n.a, n.b)), out),
+        51 => look::peek_words(place(n.a, n.b), &settings[..], out),
+        52 => look::digest(&eeprom[..], &settings[..]),
+        58 => written(save::save(&eeprom[..], &settings[..], out)),
+        _ => done(write(verb, n, eeprom)),
+    }
+}
+
+fn write(verb: usize, n: Numbers, eeprom: &mut [u8]) -> Done {
+    match verb {
+        53 => memory::write_eeprom_u8(half(n.a), byte(n.b), eeprom),
+        54 => memory::write_eeprom_u16(half(n.a), half(n.b), eeprom),
+        55 => memory::write_eeprom_u32(half(n.a), n.b, eeprom),
+        56 => memory::set_serial(n.a, eeprom),
+        _ => memory::set_timestamp(n.a, eeprom),
+    }
+}
+
+fn put_all(data: &[u8; 1020], out: &mut [u8]) {
+    octets::put(data, out);
+}
+
+// The answer's payload goes to the start of the output.
+fn executed(
+    device: Device,
+    words: Words,
+    payload: &[u8],
+    eeprom: &mut [u8],
+    settings: &mut [u32],
+    out: &mut [u8],
+) -> Answer {
+    let mut data = [0xeeu8; 1020];
+    let command = command_of(words.from(1));
+    let executed = execute::execute(device, command, payload, eeprom, settings, &mut data);
+    put_all(&data, out);
+    match executed {
+        Executed::Response(one) => response(form::EXECUTED, one),
+        Executed::Refused(number) => refused(number),
+    }
+}

@@ -1,0 +1,101 @@
+// Making a device on what is lent.
+ghost use Prim.Native.Nat.{_≤_};
+ghost use lib.ListN.{length};
+use crate::state::Asked;
+use crate::state::State;
+use crate::state::held;
+use crate::state::same;
+use bench_words::answer::*;
+use bench_words::values::*;
+use bench_words::*;
+use octets::number::big16;
+use processor::Device;
+use processor::create;
+use processor::create::Made;
+
+// The most meters that a request names.
+const METERS: usize = 512;
+
+pub fn bare(n: Numbers, state: State, eeprom: &mut [u8], settings: &mut [u32]) -> Asked {
+    made(
+        create::bare(
+            byte(n.a),
+            byte(n.b),
+            kind_of(n.c),
+            half(n.d),
+            eeprom,
+            settings,
+        ),
+        state,
+    )
+}
+
+pub fn new(
+    n: Numbers,
+    bytes: &[u8],
+    state: State,
+    eeprom: &mut [u8],
+    settings: &mut [u32],
+) -> Asked {
+    let mut meters = [0u16; METERS];
+    let count = meters_of(bytes, &mut meters);
+    made(
+        create::new(
+            byte(n.a),
+            byte(n.b),
+            kind_of(n.c),
+            half(n.d),
+            &meters[0..count],
+            eeprom,
+            settings,
+        ),
+        state,
+    )
+}
+
+// Puts the addresses in bytes at the start of meters, and answers how many those are.
+fn meters_of(bytes: &[u8], meters: &mut [u16]) -> usize
+    ensures { λ r. ⌜ r ≤ length (now (meters .entry)) ⌝ }
+{
+    let mut i = 0;
+    while i < bytes.len() / 2 {
+        if meters.len() <= i {
+            return i;
+        }
+        meters[i] = big16(bytes, 2 * i);
+        i += 1;
+    }
+    i
+}
+
+fn made(made: Made, state: State) -> Asked {
+    match made {
+        Made::Is(device) => same(
+            of_device(device),
+            held(
+                state.eeprom,
+                state.settings,
+                state.kept,
+                device,
+                state.tally,
+            ),
+        ),
+        Made::Refused(number) => same(refused(number), state),
+    }
+}
+
+fn of_device(device: Device) -> Answer {
+    let of_kind = device.kind;
+    fill(
+        form::DEVICE,
+        Numbers {
+            a: device.hw_id as u32,
+            b: device.dsp_version as u32,
+            c: device.fw_major as u32,
+            d: device.fw_minor as u32,
+            e: kind(of_kind),
+            f: device.fir_max_taps as u32,
+            g: 0,
+        },
+    )
+}

@@ -1,0 +1,57 @@
+// What the bench holds between requests beside the two memories and the bytes for a save: how much
+// of each memory it lends, the device, the tally, and how many of the bytes are the save that it keeps.
+use bench_words::*;
+use facts::probe::DeviceKind;
+use processor::Device;
+use tally::Tally;
+
+pub struct State {
+    pub eeprom: usize,
+    pub settings: usize,
+    pub kept: usize,
+    pub device: Device,
+    pub tally: Tally,
+}
+
+// An answer, and what is held after it.
+pub struct Asked {
+    pub answer: Answer,
+    pub state: State,
+}
+
+// A bare device on no memory.
+pub fn first() -> State {
+    let device = Device {
+        hw_id: 0,
+        dsp_version: 0,
+        fw_major: 1,
+        fw_minor: 13,
+        kind: DeviceKind::Generic,
+        fir_max_taps: 0,
+    };
+    held(0, 0, 0, device, Tally::zeroed())
+}
+
+pub fn held(eeprom: usize, settings: usize, kept: usize, device: Device, tally: Tally) -> State {
+    State {
+        eeprom,
+        settings,
+        kept,
+        device,
+        tally,
+    }
+}
+
+pub fn with_tally(state: State, tally: Tally) -> State {
+    held(
+        state.eeprom,
+        state.settings,
+        state.kept,
+        state.device,
+        tally,
+    )
+}
+
+pub fn same(answer: Answer, state: State) -> Asked {
+    Asked { answer, state }
+}
