@@ -76,13 +76,13 @@ fn answered(
     }
     if words.verb <= LAST_OF_CODEC {
         let answer = bench_codec::ask(words, bytes, lent);
-        put_answer(answer, words.room, bytes, lent, output);
+        put_answer(answer, words, bytes, lent, output);
         return state;
     }
     let asked = bench_device::ask(words, bytes, lent, state, eeprom, settings, kept);
     let answer = asked.answer;
     let after = asked.state;
-    put_answer(answer, words.room, bytes, lent, output);
+    put_answer(answer, words, bytes, lent, output);
     after
 }
 
@@ -95,7 +95,14 @@ fn put_misread(verb: usize, bad: usize, output: &mut [u8]) {
     put(one(form::BAD_ARGUMENT, low(bad)), b"", b"", output);
 }
 
-// The output of a call is so much of what is lent as the request asks for.
-fn put_answer(answer: Answer, room: usize, bytes: &[u8], lent: &[u8], output: &mut [u8]) {
-    put(answer, bytes, head(lent, low(room)), output);
+// The bytes of a request that an answer shows are those of its first word, and the output of its call
+// is so much of what is lent as it asks for.
+fn put_answer(answer: Answer, words: Words, bytes: &[u8], lent: &[u8], output: &mut [u8]) {
+    let n = words.from(0);
+    put(
+        answer,
+        head(bytes, n.a),
+        head(lent, low(words.room)),
+        output,
+    );
 }

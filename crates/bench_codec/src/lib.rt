@@ -1,4 +1,7 @@
 // The bench's requests that need no processor, by the numbers of their verbs: each calls its crate.
+ghost use lib.ListN.{drop};
+ghost use mathlib.Core.Path.{_≡_};
+
 mod on_commands;
 mod on_facts;
 mod on_fields;
@@ -6,14 +9,18 @@ mod on_packet;
 mod on_responses;
 mod on_views;
 
+use bench_words::answer::refused;
 use bench_words::*;
+use octets::refusal;
 
-// Answers a request. Its bytes lie in `bytes`, and what it writes goes into the room that it asks
-// for at the start of `lent`.
-pub fn ask(words: Words, bytes: &[u8], lent: &mut [u8]) -> Answer {
+// Answers a request. Its bytes lie in `bytes`; what it writes goes into the room that it asks for at
+// the start of `lent`, and what stands behind that stays.
+pub fn ask(words: Words, bytes: &[u8], lent: &mut [u8]) -> Answer
+    ensures { λ _. ⌜ drop (words .room) (now (lent .exit)) ≡ drop (words .room) (now (lent .entry)) ⌝ }
+{
     let room = words.room;
     if lent.len() < room {
-        return asked(words, bytes, lent);
+        return refused(refusal::NO_ROOM);
     }
     asked(words, bytes, &mut lent[0..room])
 }

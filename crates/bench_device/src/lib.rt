@@ -1,5 +1,8 @@
 // The bench's requests over one processor, by the numbers of their verbs: it holds how much of two
 // memories it lends, the device, the tally, and a save.
+ghost use lib.ListN.{drop};
+ghost use mathlib.Core.Path.{_≡_};
+
 mod look;
 mod make;
 pub mod state;
@@ -16,6 +19,7 @@ use device::execute;
 use device::execute::Executed;
 use octets::Done;
 use octets::Written;
+use octets::refusal;
 use processor::Device;
 use processor::eeprom as memory;
 use saves::judge;
@@ -25,8 +29,9 @@ use saves::shape::Judged;
 use tally::Tally;
 use tally::receive::receive_lending;
 
-// Answers a request on what is lent of the two memories. Its bytes lie in `bytes`, and what it writes
-// goes into the room that it asks for at the start of `lent`.
+// Answers a request on what is lent of the two memories. Its bytes lie in `bytes`; what it writes
+// goes into the room that it asks for at the start of `lent`. What stands behind that, and behind
+// what is lent of a memory, stays.
 pub fn ask(
     words: Words,
     bytes: &[u8],
@@ -35,12 +40,43 @@ pub fn ask(
     eeprom: &mut [u8],
     settings: &mut [u32],
     kept: &mut [u8],
+) -> Asked
+    ensures { λ _. ⌜ (drop (words .room) (now (lent .exit)) ≡ drop (words .room) (now (lent .entry))) × (drop (state .eeprom) (now (eeprom .exit)) ≡ drop (state .eeprom) (now (eeprom .entry))) × (drop (state .settings) (now (settings .exit)) ≡ drop (state .settings) (now (settings .entry))) ⌝ }
+{
+    let room = words.room;
+    let e = state.eeprom;
+    let s = state.settings;
+    if lent.len() < room {
+        return same(refused(refusal::NO_ROOM), state);
+    }
+    if eeprom.len() < e {
+        return same(refused(refusal::OUTSIDE), state);
+    }
+    if settings.len() < s {
+        return same(refused(refusal::OUTSIDE), state);
+    }
+    asked(
+        words,
+        bytes,
+        &mut lent[0..room],
+        state,
+        &mut eeprom[0..e],
+        &mut settings[0..s],
+        kept,
+    )
+}
+
+fn asked(
+    words: Words,
+    bytes: &[u8],
+    out: &mut [u8],
+    state: State,
+    eeprom: &mut [u8],
+    settings: &mut [u32],
+    kept: &mut [u8],
 ) -> Asked {
-    let out = front(lent, words.room);
-    let eeprom = front(eeprom, state.eeprom);
-    let settings = front_words(settings, state.settings);
-    let n = words.from(0);
     let verb = words.verb;
+    let n = words.from(0);
     match verb {
         42..=47 => changed(words, bytes, out, state, eeprom, settings),
         59 => keep(n.a, state, &eeprom[..], &settings[..], kept),
@@ -61,13 +97,6 @@ pub fn ask(
 
 // The first n bytes of a memory, or all of it.
 fn front(memory: &mut [u8], n: usize) -> &mut [u8] {
-    if memory.len() < n {
-        return memory;
-    }
-    &mut memory[0..n]
-}
-
-fn front_words(memory: &mut [u32], n: usize) -> &mut [u32] {
     if memory.len() < n {
         return memory;
     }

@@ -287,8 +287,11 @@ pub fn walk_from(place: usize) -> Walk {
 }
 
 impl Walk {
-    // Goes on in a name's row, and then where it is.
+    // Goes on behind a name in its row, and then where it is; 0 is no row.
     pub fn into_row(self, place: usize) -> Walk {
+        if place == 0 {
+            return self;
+        }
         Walk {
             start: place,
             len: 0,
