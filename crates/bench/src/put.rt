@@ -1,11 +1,11 @@
 // An answer in words, by its row of the table. Each word has a space behind it; the last one's
 // becomes the line end.
 ghost use Prim.Native.Nat.{_≤_};
+use bench_records::values::value;
 use bench_words::answer::*;
 use bench_words::read::MOST;
 use bench_words::table::TABLE;
 use bench_words::table::Walk;
-use bench_words::values::value;
 use bench_words::*;
 use fields::value::ReadValue;
 use fields::value::Value;

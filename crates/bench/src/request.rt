@@ -3,9 +3,6 @@ use crate::put::put;
 use bench_device::state::State;
 use bench_words::Answer;
 use bench_words::Words;
-use bench_words::answer::one;
-use bench_words::answer::plain;
-use bench_words::form;
 use bench_words::head;
 use bench_words::low;
 use bench_words::read::read;
@@ -14,8 +11,7 @@ use libc::STDOUT_FILENO;
 // The verbs up to this one need no processor.
 const LAST_OF_CODEC: usize = 41;
 
-// Writes the answer to a line, and answers what is held after it. A line that is too long has lost
-// its start; a remark and an empty line are answered by themselves.
+// Writes the answer to a line, and answers what is held after it.
 pub fn answer(
     line: &[u8],
     long: bool,
@@ -25,26 +21,9 @@ pub fn answer(
     settings: &mut [u32],
     kept: &mut [u8],
 ) -> State {
-    if long {
-        io::write_all(STDOUT_FILENO, b"bad line: too long\n");
+    if is_remark(line, long) {
         return state;
     }
-    if line.len() == 0 || line[0] == b'#' {
-        io::write_all(STDOUT_FILENO, line);
-        io::write_all(STDOUT_FILENO, b"\n");
-        return state;
-    }
-    asked(line, state, output, eeprom, settings, kept)
-}
-
-fn asked(
-    line: &[u8],
-    state: State,
-    output: &mut [u8],
-    eeprom: &mut [u8],
-    settings: &mut [u32],
-    kept: &mut [u8],
-) -> State {
     let mut bytes = [0u8; 2048];
     let mut lent = [0xeeu8; 4096];
     let words = read(line, &mut bytes);
@@ -60,39 +39,40 @@ fn asked(
     )
 }
 
+// A remark and an empty line are answered by themselves; a line that is too long has lost its start.
+fn is_remark(line: &[u8], long: bool) -> bool {
+    if long {
+        io::write_all(STDOUT_FILENO, b"bad line: too long\n");
+        return true;
+    }
+    if line.len() == 0 || line[0] == b'#' {
+        io::write_all(STDOUT_FILENO, line);
+        io::write_all(STDOUT_FILENO, b"\n");
+        return true;
+    }
+    false
+}
+
 fn answered(
     words: Words,
     state: State,
-    bytes: &[u8; 2048],
-    lent: &mut [u8; 4096],
+    bytes: &[u8],
+    lent: &mut [u8],
     output: &mut [u8],
     eeprom: &mut [u8],
     settings: &mut [u32],
     kept: &mut [u8],
 ) -> State {
-    if words.verb == 0 || 0 < words.bad {
-        put_misread(words.verb, words.bad, output);
-        return state;
-    }
-    if words.verb <= LAST_OF_CODEC {
+    if words.verb <= LAST_OF_CODEC || 0 < words.bad {
         let answer = bench_codec::ask(words, bytes, lent);
-        put_answer(answer, words, bytes, lent, output);
+        put_answer(answer, words, bytes, &lent[..], output);
         return state;
     }
     let asked = bench_device::ask(words, bytes, lent, state, eeprom, settings, kept);
     let answer = asked.answer;
     let after = asked.state;
-    put_answer(answer, words, bytes, lent, output);
+    put_answer(answer, words, bytes, &lent[..], output);
     after
-}
-
-// What is said of a line that is no request.
-fn put_misread(verb: usize, bad: usize, output: &mut [u8]) {
-    if verb == 0 {
-        put(plain(form::BAD_VERB), b"", b"", output);
-        return;
-    }
-    put(one(form::BAD_ARGUMENT, low(bad)), b"", b"", output);
 }
 
 // The bytes of a request that an answer shows are those of its first word, and the output of its call

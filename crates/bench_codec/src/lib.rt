@@ -9,16 +9,22 @@ mod on_packet;
 mod on_responses;
 mod on_views;
 
-use bench_words::answer::refused;
+use bench_words::answer::*;
 use bench_words::*;
 use octets::refusal;
 
-// Answers a request. Its bytes lie in `bytes`; what it writes goes into the room that it asks for at
+// Answers a request, and a line that is none. Its bytes lie in `bytes`; what it writes goes into the room that it asks for at
 // the start of `lent`, and what stands behind that stays.
 pub fn ask(words: Words, bytes: &[u8], lent: &mut [u8]) -> Answer
     ensures { λ _. ⌜ drop (words .room) (now (lent .exit)) ≡ drop (words .room) (now (lent .entry)) ⌝ }
 {
     let room = words.room;
+    if words.verb == 0 {
+        return plain(form::BAD_VERB);
+    }
+    if 0 < words.bad {
+        return one(form::BAD_ARGUMENT, low(words.bad));
+    }
     if lent.len() < room {
         return refused(refusal::NO_ROOM);
     }

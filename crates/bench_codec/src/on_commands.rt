@@ -1,9 +1,9 @@
 // Requests over the crate commands: commands and dialects.
 use crate::on_fields::of_addr;
 use crate::on_fields::of_value;
+use bench_records::records::*;
+use bench_records::values::*;
 use bench_words::answer::*;
-use bench_words::records::*;
-use bench_words::values::*;
 use bench_words::*;
 use commands::Commands;
 use commands::decode::ReadCommand;

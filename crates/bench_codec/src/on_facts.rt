@@ -1,7 +1,7 @@
 // Requests over the crate facts.
+use bench_records::values::*;
 use bench_words::answer::*;
 use bench_words::read::*;
-use bench_words::values::*;
 use bench_words::*;
 use facts::DeviceInfo;
 use facts::eeprom;

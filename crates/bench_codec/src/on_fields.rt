@@ -1,6 +1,6 @@
 // Requests over the crate fields: addresses and values.
+use bench_records::values::*;
 use bench_words::answer::*;
-use bench_words::values::*;
 use bench_words::*;
 use fields::addr::Addr;
 use fields::addr::ReadAddr;

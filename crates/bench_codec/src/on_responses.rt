@@ -1,11 +1,11 @@
 // Requests over the crate responses.
 use crate::on_facts::info_of;
 use crate::on_fields::read_value;
+use bench_records::records::*;
+use bench_records::values::source as source_number;
+use bench_records::values::*;
 use bench_words::answer::*;
 use bench_words::read::*;
-use bench_words::records::*;
-use bench_words::values::source as source_number;
-use bench_words::values::*;
 use bench_words::*;
 use numbers::float::to_bits;
 use responses::Responses;

@@ -1,7 +1,7 @@
 // Requests over the crate views. A view's words are its bytes, its base, and its place in them.
+use bench_records::records::*;
 use bench_words::answer::*;
 use bench_words::read::*;
-use bench_words::records::*;
 use bench_words::*;
 use octets::Place;
 use views::ReadPart;

@@ -12,8 +12,8 @@ use crate::state::State;
 use crate::state::held;
 use crate::state::same;
 use crate::state::with_tally;
+use bench_records::records::*;
 use bench_words::answer::*;
-use bench_words::records::*;
 use bench_words::*;
 use device::execute;
 use device::execute::Executed;
@@ -76,22 +76,17 @@ fn asked(
     kept: &mut [u8],
 ) -> Asked {
     let verb = words.verb;
-    let n = words.from(0);
     match verb {
         42..=47 => changed(words, bytes, out, state, eeprom, settings),
-        59 => keep(n.a, state, &eeprom[..], &settings[..], kept),
-        60 | 61 | 65 => {
+        59 => keep(words, state, &eeprom[..], &settings[..], kept),
+        _ => {
             let saved = head(&kept[..], low(state.kept));
-            same(on_save(verb, n, saved, out, eeprom, settings), state)
+            let device = state.device;
+            same(
+                call(words, bytes, saved, out, device, eeprom, settings),
+                state,
+            )
         }
-        62..=64 => same(
-            on_save(verb, n, head(bytes, n.a), out, eeprom, settings),
-            state,
-        ),
-        _ => same(
-            call(words, bytes, out, state.device, eeprom, settings),
-            state,
-        ),
     }
 }
 
@@ -155,8 +150,9 @@ fn counts(state: State) -> Answer {
 }
 
 // A save that is refused leaves the one that is kept.
-fn keep(room: u32, state: State, eeprom: &[u8], settings: &[u32], kept: &mut [u8]) -> Asked {
-    match save::save(eeprom, settings, front(kept, room as usize)) {
+fn keep(words: Words, state: State, eeprom: &[u8], settings: &[u32], kept: &mut [u8]) -> Asked {
+    let n = words.from(0);
+    match save::save(eeprom, settings, front(kept, n.a as usize)) {
         Written::Bytes(n) => same(
             number(low(n)),
             held(state.eeprom, state.settings, n, state.device, state.tally),
@@ -193,6 +189,7 @@ fn judged(judged: Judged) -> Answer {
 fn call(
     words: Words,
     bytes: &[u8],
+    saved: &[u8],
     out: &mut [u8],
     device: Device,
     eeprom: &mut [u8],
@@ -214,6 +211,8 @@ fn call(
         51 => look::peek_words(place(n.a, n.b), &settings[..], out),
         52 => look::digest(&eeprom[..], &settings[..]),
         58 => written(save::save(&eeprom[..], &settings[..], out)),
+        60 | 61 | 65 => on_save(verb, n, saved, out, eeprom, settings),
+        62..=64 => on_save(verb, n, head(bytes, n.a), out, eeprom, settings),
         _ => done(write(verb, n, eeprom)),
     }
 }

@@ -3,9 +3,7 @@
 pub mod answer;
 pub mod form;
 pub mod read;
-pub mod records;
 pub mod table;
-pub mod values;
 
 pub use answer::Answer;
 use octets::Place;

@@ -4,8 +4,8 @@ use borrow.Author.Needs.{needs}
 use Rattle.bench_codec.proofs.ask.Statement.{statement}
 use Rattle.bench_codec.proofs.ask.Tie as tie
 
-returns-2 : tie.Need-returns-2
-returns-2 c = let a = c .before .before .before .before .before .before .before .args in behind-cut (a .lent .now) (c .before .before .asked .last .1 .1 .0) (a .words .room) (search needs)
+returns-4 : tie.Need-returns-4
+returns-4 c = let a = c .before .before .before .before .before .before .before .before .before .before .before .args in behind-cut (a .lent .now) (c .before .before .asked .last .1 .1 .0) (a .words .room) (search needs)
 
 pub ask-spec : {M : Type 1} → statement M
 ask-spec =
@@ -13,9 +13,14 @@ ask-spec =
     (tie.spec
     (λ c κs. search needs)
     (λ c. search needs)
+    (λ c κs. search needs)
+    (λ c κs. search needs)
+    (λ c. search needs)
+    (λ c κs. search needs)
+    (λ c. search needs)
     (λ c. search needs)
     (λ c. search needs)
     (λ c. search needs)
     (λ c κs. search needs)
     (λ c. search needs)
-    returns-2)
+    returns-4)

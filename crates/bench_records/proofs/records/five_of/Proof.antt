@@ -3,8 +3,8 @@ use Prim.Native.Nat.{ℕ, _-_, _≤_}
 use mathlib.Core.Path.{_≡_}
 use lib.ListN.{length}
 use borrow.Author.Needs.{needs}
-use Rattle.bench_words.proofs.records.five_of.Statement.{statement}
-use Rattle.bench_words.proofs.records.five_of.Tie as tie
+use Rattle.bench_records.proofs.records.five_of.Statement.{statement}
+use Rattle.bench_records.proofs.records.five_of.Tie as tie
 
 abbrev Inv-loop : tie.InvT-loop
 Inv-loop numbers all₀ i₀ all i = (i ≤ 5) × (length all ≡ 5) × (length numbers ≡ 32)

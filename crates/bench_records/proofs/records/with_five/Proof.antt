@@ -3,8 +3,8 @@ use Prim.Native.Nat.{ℕ, _-_, _≤_}
 use mathlib.Core.Path.{_≡_}
 use lib.ListN.{length, length-set}
 use borrow.Author.Needs.{needs}
-use Rattle.bench_words.proofs.records.with_five.Statement.{statement}
-use Rattle.bench_words.proofs.records.with_five.Tie as tie
+use Rattle.bench_records.proofs.records.with_five.Statement.{statement}
+use Rattle.bench_records.proofs.records.with_five.Tie as tie
 
 abbrev Inv-loop : tie.InvT-loop
 Inv-loop short five all₀ i₀ all i = (i ≤ 5) × (length all ≡ 32) × (length five ≡ 5)

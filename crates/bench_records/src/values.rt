@@ -1,10 +1,10 @@
 // Addresses, values, kinds and sources by their numbers.
-use crate::Numbers;
-use crate::byte;
-use crate::half;
-use crate::low;
-use crate::of;
-use crate::place;
+use bench_words::Numbers;
+use bench_words::byte;
+use bench_words::half;
+use bench_words::low;
+use bench_words::of;
+use bench_words::place;
 use facts::probe::DeviceKind;
 use facts::probe::DeviceKind::*;
 use facts::source::Source;
