@@ -37,12 +37,11 @@ fn serve(
         turns -= 1;
         let end = used + text::until(&input[used..have], b'\n');
         if end == have && !ended {
-            long = too_long(used, have, input.len(), long);
-            have = keep(input, used, have, long);
+            let more = read_more(input, used, have, long);
             used = 0;
-            let more = read_behind(input, have);
-            have += more;
-            ended = more == 0;
+            have = more.have;
+            long = more.long;
+            ended = more.ended;
             continue;
         }
         if used == have && !long {
@@ -57,11 +56,33 @@ fn serve(
             settings,
             kept,
         );
-        long = false;
         if ended {
             return;
         }
+        long = false;
         used = behind_line(end, have);
+    }
+}
+
+// How much of the input there is, whether the start of its line is dropped, and whether it has ended.
+struct More {
+    have: usize,
+    long: bool,
+    ended: bool,
+}
+
+// Reads behind the line that is not ended yet, which goes to the front.
+fn read_more(input: &mut [u8], used: usize, have: usize, long: bool) -> More
+    requires { ⌜ (used ≤ have) × (have ≤ length (now input)) ⌝ }
+    ensures { λ r. ⌜ r .have ≤ length (now (input .entry)) ⌝ }
+{
+    let dropped = too_long(used, have, input.len(), long);
+    let kept = keep(input, used, have, dropped);
+    let came = read_behind(input, kept);
+    More {
+        have: kept + came,
+        long: dropped,
+        ended: came == 0,
     }
 }
 

@@ -1,5 +1,4 @@
 // One request: read by the table, answered by the part whose verb it is, and put by the table.
-use crate::put::put;
 use bench_device::state::State;
 use bench_words::Answer;
 use bench_words::Words;
@@ -7,9 +6,6 @@ use bench_words::head;
 use bench_words::low;
 use bench_words::read::read;
 use libc::STDOUT_FILENO;
-
-// The verbs up to this one need no processor.
-const LAST_OF_CODEC: usize = 41;
 
 // Writes the answer to a line, and answers what is held after it.
 pub fn answer(
@@ -63,7 +59,7 @@ fn answered(
     settings: &mut [u32],
     kept: &mut [u8],
 ) -> State {
-    if words.verb <= LAST_OF_CODEC || 0 < words.bad {
+    if !words.of_processor || words.verb == 0 || 0 < words.bad {
         let answer = bench_codec::ask(words, bytes, lent);
         put_answer(answer, words, bytes, &lent[..], output);
         return state;
@@ -79,10 +75,11 @@ fn answered(
 // is so much of what is lent as it asks for.
 fn put_answer(answer: Answer, words: Words, bytes: &[u8], lent: &[u8], output: &mut [u8]) {
     let n = words.from(0);
-    put(
+    let end = bench_answers::put(
         answer,
         head(bytes, n.a),
         head(lent, low(words.room)),
         output,
     );
+    io::write_all(STDOUT_FILENO, &output[0..end]);
 }

@@ -13,8 +13,8 @@ use bench_words::answer::*;
 use bench_words::*;
 use octets::refusal;
 
-// Answers a request, and a line that is none. Its bytes lie in `bytes`; what it writes goes into the room that it asks for at
-// the start of `lent`, and what stands behind that stays.
+// Answers a request, and a line that is none. Its bytes lie in `bytes`; what it writes goes into the
+// room that it asks for at the start of `lent`, and what stands behind that stays.
 pub fn ask(words: Words, bytes: &[u8], lent: &mut [u8]) -> Answer
     ensures { λ _. ⌜ drop (words .room) (now (lent .exit)) ≡ drop (words .room) (now (lent .entry)) ⌝ }
 {

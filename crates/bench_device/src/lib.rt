@@ -77,8 +77,8 @@ fn asked(
 ) -> Asked {
     let verb = words.verb;
     match verb {
-        42..=47 => changed(words, bytes, out, state, eeprom, settings),
-        59 => keep(words, state, &eeprom[..], &settings[..], kept),
+        1..=6 => changed(words, bytes, out, state, eeprom, settings),
+        18 => keep(words, state, &eeprom[..], &settings[..], kept),
         _ => {
             let saved = head(&kept[..], low(state.kept));
             let device = state.device;
@@ -110,11 +110,11 @@ fn changed(
     let n = words.from(0);
     let verb = words.verb;
     match verb {
-        42 => same(plain(form::DONE), lending(state, n.a, n.b)),
-        43 => make::bare(n, state, eeprom, settings),
-        44 => make::new(n, head(bytes, n.e), state, eeprom, settings),
-        45 => send(head(bytes, n.a), out, state, eeprom, settings),
-        46 => same(counts(state), state),
+        1 => same(plain(form::DONE), lending(state, n.a, n.b)),
+        2 => make::bare(n, state, eeprom, settings),
+        3 => make::new(n, head(bytes, n.e), state, eeprom, settings),
+        4 => send(head(bytes, n.a), out, state, eeprom, settings),
+        5 => same(counts(state), state),
         _ => same(plain(form::DONE), with_tally(state, Tally::zeroed())),
     }
 }
@@ -171,9 +171,9 @@ fn on_save(
     settings: &mut [u32],
 ) -> Answer {
     match verb {
-        60 => look::peek(octets::part(saved, place(n.a, n.b)), out),
-        61 | 62 => done(replay::replay(eeprom, settings, saved)),
-        63 => judged(judge::judge(saved)),
+        19 => look::peek(octets::part(saved, place(n.a, n.b)), out),
+        20 | 21 => done(replay::replay(eeprom, settings, saved)),
+        22 => judged(judge::judge(saved)),
         _ => written(listed::list(saved, out)),
     }
 }
@@ -198,8 +198,8 @@ fn call(
     let n = words.from(0);
     let verb = words.verb;
     match verb {
-        48 => executed(device, words, head(bytes, n.a), eeprom, settings, out),
-        49 => written(execute::execute_into(
+        7 => executed(device, words, head(bytes, n.a), eeprom, settings, out),
+        8 => written(execute::execute_into(
             device,
             command_of(words.from(2)),
             head(bytes, n.a),
@@ -207,22 +207,22 @@ fn call(
             settings,
             out,
         )),
-        50 => look::peek(octets::part(&eeprom[..], place(n.a, n.b)), out),
-        51 => look::peek_words(place(n.a, n.b), &settings[..], out),
-        52 => look::digest(&eeprom[..], &settings[..]),
-        58 => written(save::save(&eeprom[..], &settings[..], out)),
-        60 | 61 | 65 => on_save(verb, n, saved, out, eeprom, settings),
-        62..=64 => on_save(verb, n, head(bytes, n.a), out, eeprom, settings),
+        9 => look::peek(octets::part(&eeprom[..], place(n.a, n.b)), out),
+        10 => look::peek_words(place(n.a, n.b), &settings[..], out),
+        11 => look::digest(&eeprom[..], &settings[..]),
+        17 => written(save::save(&eeprom[..], &settings[..], out)),
+        19 | 20 | 24 => on_save(verb, n, saved, out, eeprom, settings),
+        21..=23 => on_save(verb, n, head(bytes, n.a), out, eeprom, settings),
         _ => done(write(verb, n, eeprom)),
     }
 }
 
 fn write(verb: usize, n: Numbers, eeprom: &mut [u8]) -> Done {
     match verb {
-        53 => memory::write_eeprom_u8(half(n.a), byte(n.b), eeprom),
-        54 => memory::write_eeprom_u16(half(n.a), half(n.b), eeprom),
-        55 => memory::write_eeprom_u32(half(n.a), n.b, eeprom),
-        56 => memory::set_serial(n.a, eeprom),
+        12 => memory::write_eeprom_u8(half(n.a), byte(n.b), eeprom),
+        13 => memory::write_eeprom_u16(half(n.a), half(n.b), eeprom),
+        14 => memory::write_eeprom_u32(half(n.a), n.b, eeprom),
+        15 => memory::set_serial(n.a, eeprom),
         _ => memory::set_timestamp(n.a, eeprom),
     }
 }

@@ -25,10 +25,12 @@ pub const SECOND: usize = 1024;
 // The number that `@` goes on with.
 pub const AFTER: usize = 20;
 
-// The number of its verb, 0 where it has none, and that of its first word behind the verb that is
-// not what it should be, 0 where there is none; how much output it asks for, and its numbers.
+// The number of its verb, 0 where it has none, and whether that is one of a processor; the number of
+// its first word behind the verb that is not what it should be, 0 where there is none; how much output
+// it asks for, and its numbers.
 pub struct Words {
     pub verb: usize,
+    pub of_processor: bool,
     pub bad: usize,
     pub room: usize,
     pub numbers: [u32; MOST],
@@ -81,13 +83,21 @@ struct Reading {
 // Reads a request, and puts its bytes into `bytes`.
 pub fn read(line: &[u8], bytes: &mut [u8]) -> Words {
     let row = table::find(&TABLE, b'a', 0, first(line));
-    let mut reading = begun(row.end, word_end(line));
+    if row.number == 0 {
+        let row = table::find(&TABLE, b'd', 0, first(line));
+        return read_by(row.number, true, row.end, line, bytes);
+    }
+    read_by(row.number, false, row.end, line, bytes)
+}
+
+fn read_by(verb: usize, of_processor: bool, row: usize, line: &[u8], bytes: &mut [u8]) -> Words {
+    let mut reading = begun(row, word_end(line));
     let mut steps = 0;
     while steps < STEPS {
         reading = one_more(reading, line, bytes);
         steps += 1;
     }
-    as_read(row.number, reading)
+    as_read(verb, of_processor, reading)
 }
 
 fn begun(row: usize, at: usize) -> Reading {
@@ -102,25 +112,25 @@ fn begun(row: usize, at: usize) -> Reading {
     }
 }
 
-fn as_read(verb: usize, reading: Reading) -> Words {
+fn as_read(verb: usize, of_processor: bool, reading: Reading) -> Words {
     let numbers = reading.numbers;
     let counts = reading.counts;
     let room = counts.room;
-    if reading.bad {
-        let bad = counts.word;
-        return Words {
-            verb,
-            bad,
-            room,
-            numbers,
-        };
-    }
+    let bad = bad_word(counts.word, reading.bad);
     Words {
         verb,
-        bad: 0,
+        of_processor,
+        bad,
         room,
         numbers,
     }
+}
+
+fn bad_word(word: usize, bad: bool) -> usize {
+    if bad {
+        return word;
+    }
+    0
 }
 
 // Reads one word more; once all are read, or one is bad, the table has no more.

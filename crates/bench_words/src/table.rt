@@ -2,9 +2,10 @@
 // the letters of the words behind it. A row's number in its list, counted from 1, is what the code
 // knows it by.
 //
-// The lists: a verbs, C commands, R responses, U values, V the values of a Read, K kinds of device,
-// S sources, I what a response is asked for, L E D a dialect's address length, its encoding and what
-// it is asked, z answers.
+// The lists: a verbs that need no processor, d those of the processor that the bench holds, C commands,
+// R responses, U values, V the values of a Read, K kinds of device, S sources, I what a response is
+// asked for, L E D a dialect's address length, its encoding and what it is asked, z answers. A new row
+// comes behind those of its list, so that their numbers stay.
 //
 // The letters of words: a list's own letter for a name of it and the words of its row;
 //   x BYTES   p BYTES in pairs   r ROOM   q ROOM for so many words   n NUMBER   m NUMBER to 65,537
@@ -61,30 +62,30 @@ a value_number x n V
 a encode_response x r R
 a encode_response_frame x r R
 a status b b x h n n
-a lend m m
-a bare b b K h
-a new b b K h p
-a send x r
-a tally
-a zero
-a execute x ! C
-a execute_into x r C
-a peek h r
-a peek_words h q
-a digest
-a write_u8 h b
-a write_u16 h h
-a write_u32 h w
-a set_serial w
-a set_timestamp w
-a save r
-a keep k
-a kept n r
-a restore
-a replay x
-a judge x
-a listing x r
-a list_kept r
+d lend m m
+d bare b b K h
+d new b b K h p
+d send x r
+d tally
+d zero
+d execute x ! C
+d execute_into x r C
+d peek h r
+d peek_words h q
+d digest
+d write_u8 h b
+d write_u16 h h
+d write_u32 h w
+d set_serial w
+d set_timestamp w
+d save r
+d keep k
+d kept n r
+d restore
+d replay x
+d judge x
+d listing x r
+d list_kept r
 C ReadHardwareId
 C FirLoadEnd
 C ReadFloats h b

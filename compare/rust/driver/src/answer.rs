@@ -1,12 +1,12 @@
 //! Answers requests of the program `bench` from the Rust. docs/BENCH.md describes the language.
 mod answers;
 mod commands;
+mod device;
 mod encoding;
 mod facts;
 mod fields;
-mod frames;
 mod numbers;
-mod processor;
+mod packet;
 mod records;
 mod responses;
 mod saves;
@@ -37,7 +37,7 @@ fn at_panic(verb: &str) -> u8 {
 
 #[derive(Default)]
 pub struct Rust {
-    processor: processor::Processor,
+    device: device::Processor,
 }
 
 impl Rust {
@@ -52,7 +52,7 @@ impl Rust {
 
     /// Each part is asked in turn whether the verb is its own.
     fn by_verb(&mut self, verb: &str, args: &[&str]) -> String {
-        frames::answer(verb, args)
+        packet::answer(verb, args)
             .or_else(|| numbers::answer(verb, args))
             .or_else(|| fields::answer(verb, args))
             .or_else(|| commands::answer(verb, args))
@@ -60,7 +60,7 @@ impl Rust {
             .or_else(|| facts::answer(verb, args))
             .or_else(|| views::answer(verb, args))
             .or_else(|| responses::answer(verb, args))
-            .or_else(|| self.processor.answer(verb, args))
+            .or_else(|| self.device.answer(verb, args))
             .unwrap_or_else(|| "(no such request)".to_string())
     }
 }

@@ -1,9 +1,9 @@
 //! Requests for the comparison, from a seed.
 mod commands;
+mod device;
 mod facts;
-mod frames;
 mod numbers;
-mod processor;
+mod packet;
 mod records;
 mod responses;
 mod saves;
@@ -15,14 +15,14 @@ type Part = fn(&mut Random, &mut dyn FnMut(String));
 
 /// The parts of the comparison.
 pub const PARTS: &[(&str, Part)] = &[
-    ("frames", frames::requests),
+    ("packet", packet::requests),
     ("numbers", numbers::requests),
     ("commands", commands::requests),
     ("records", records::requests),
     ("facts", facts::requests),
     ("views", views::requests),
     ("responses", responses::requests),
-    ("device", processor::requests),
+    ("device", device::requests),
     ("saves", saves::requests),
 ];
 

@@ -7,7 +7,7 @@ use minidsp_protocol::{
     packet,
 };
 
-use super::{frames::strictly, processor::caught};
+use super::{device::caught, packet::strictly};
 
 /// Tag, length and content.
 fn field(tag: u8, content: &[u8]) -> Vec<u8> {

@@ -1,8 +1,8 @@
 //! Saves of devices after a run of calls, looked at and put back: on the same device after other calls,
 //! on another of the same sizes, and on one of other sizes; then streams of writes in any order.
 use super::{
-    frames::framed,
-    processor::{make, run, Line, Sizes},
+    device::{make, run, Line, Sizes},
+    packet::framed,
     Random,
 };
 use crate::answer::words::hex;

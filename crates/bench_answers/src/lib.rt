@@ -1,6 +1,7 @@
-// An answer in words, by its row of the table. Each word has a space behind it; the last one's
+// The bench's answers in words, by their rows of the table. Each word has a space behind it; the last one's
 // becomes the line end.
 ghost use Prim.Native.Nat.{_≤_};
+ghost use lib.ListN.{length};
 use bench_records::values::value;
 use bench_words::answer::*;
 use bench_words::read::MOST;
@@ -9,7 +10,6 @@ use bench_words::table::Walk;
 use bench_words::*;
 use fields::value::ReadValue;
 use fields::value::Value;
-use libc::STDOUT_FILENO;
 use octets::Place;
 use octets::Written;
 use responses::Values;
@@ -24,21 +24,27 @@ struct Putting {
     end: usize,
 }
 
-// Writes an answer. `bytes` are those of the request, `lent` the output of its call.
-pub fn put(answer: Answer, bytes: &[u8], lent: &[u8], out: &mut [u8]) {
+// Puts an answer and a line end at the start of `out`, and answers how many bytes those take: none
+// where they have no room. `bytes` are those of the request, `lent` the output of its call.
+pub fn put(answer: Answer, bytes: &[u8], lent: &[u8], out: &mut [u8]) -> usize
+    ensures { λ r. ⌜ r ≤ length (now (out .entry)) ⌝ }
+{
     let end = put_words(answer, bytes, lent, out, 0);
     let end = put_each(chunks_of(answer), bytes, out, end);
-    finish(out, end);
+    finish(out, end)
 }
 
-fn finish(out: &mut [u8], end: usize) {
+fn finish(out: &mut [u8], end: usize) -> usize
+    ensures { λ r. ⌜ r ≤ length (now (out .entry)) ⌝ }
+{
     if end == 0 {
-        return;
+        return 0;
     }
-    if end <= out.len() {
-        out[end - 1] = b'\n';
-        io::write_all(STDOUT_FILENO, &out[0..end]);
+    if out.len() < end {
+        return 0;
     }
+    out[end - 1] = b'\n';
+    end
 }
 
 // The place of the values that stand behind its words.

@@ -1,5 +1,5 @@
 //! Devices, each with a run of frames and calls, and both memories compared at its end.
-use super::{commands, frames::framed, records, Random};
+use super::{commands, packet::framed, records, Random};
 use crate::answer::words::hex;
 
 /// Sizes at and around each address that a command names, and the most that a device has.
