@@ -60,15 +60,31 @@ fn answered(
     kept: &mut [u8],
 ) -> State {
     if !words.of_processor || words.verb == 0 || 0 < words.bad {
-        let answer = bench_codec::ask(words, bytes, lent);
-        put_answer(answer, words, bytes, &lent[..], output);
+        by_codec(words, bytes, lent, output);
         return state;
     }
+    by_device(words, state, bytes, lent, output, eeprom, settings, kept)
+}
+
+fn by_codec(words: Words, bytes: &[u8], lent: &mut [u8], output: &mut [u8]) {
+    let answer = bench_codec::ask(words, bytes, lent);
+    put_answer(answer, words, bytes, &lent[..], output);
+}
+
+fn by_device(
+    words: Words,
+    state: State,
+    bytes: &[u8],
+    lent: &mut [u8],
+    output: &mut [u8],
+    eeprom: &mut [u8],
+    settings: &mut [u32],
+    kept: &mut [u8],
+) -> State {
     let asked = bench_device::ask(words, bytes, lent, state, eeprom, settings, kept);
     let answer = asked.answer;
-    let after = asked.state;
     put_answer(answer, words, bytes, &lent[..], output);
-    after
+    asked.state
 }
 
 // The bytes of a request that an answer shows are those of its first word, and the output of its call

@@ -4,7 +4,7 @@ ghost use Prim.Native.Nat.{_≤_};
 ghost use lib.ListN.{length};
 use bench_records::values::value;
 use bench_words::answer::*;
-use bench_words::read::MOST;
+use bench_words::read::MOST_NUMBERS;
 use bench_words::table::TABLE;
 use bench_words::table::Walk;
 use bench_words::*;
@@ -15,7 +15,7 @@ use octets::Written;
 use responses::Values;
 
 // More words than any answer has but for values in chunks.
-const WORDS: usize = 64;
+const MOST_WORDS: usize = 64;
 
 // How far an answer is put: where in its row, how many of its numbers, and where its text ends.
 struct Putting {
@@ -93,7 +93,7 @@ fn put_words(answer: Answer, bytes: &[u8], lent: &[u8], out: &mut [u8], at: usiz
         end: at,
     };
     let mut turns = 0;
-    while turns < WORDS {
+    while turns < MOST_WORDS {
         putting = put_next(putting, answer, bytes, lent, out);
         turns += 1;
     }
@@ -116,7 +116,7 @@ fn put_next(
     if walk.len == 0 {
         return putting;
     }
-    if MOST - 2 < i {
+    if MOST_NUMBERS - 2 < i {
         return putting;
     }
     let word = octets::part(&TABLE, word_of(walk));

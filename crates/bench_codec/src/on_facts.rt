@@ -32,7 +32,7 @@ pub fn info_of(hw_id: u32, dsp_version: u32) -> DeviceInfo {
 // Each source of a device and its number; the first that is not there has no name.
 fn sources(info: DeviceInfo) -> Answer {
     let mapping = Source::mapping(info);
-    let mut numbers = [0u32; MOST];
+    let mut numbers = [0u32; MOST_NUMBERS];
     let mut i = 0;
     while i < 7 {
         if mapping.count <= i {
@@ -68,7 +68,7 @@ fn addresses() -> Answer {
         eeprom::SERIAL as u32,
         eeprom::SERIAL_SHORT as u32,
     ];
-    let mut numbers = [0u32; MOST];
+    let mut numbers = [0u32; MOST_NUMBERS];
     let mut i = 0;
     while i < 12 {
         numbers[i] = all[i];

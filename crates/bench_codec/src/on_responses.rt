@@ -27,7 +27,9 @@ pub fn ask(words: Words, n: Numbers, bytes: &[u8], out: &mut [u8]) -> Answer {
         33 => parsed(Responses::from_bytes(held)),
         34 => kinds(response_of(n)),
         35 => into(n.a, response_of(words.from(1))),
-        36 => number(matches_response(command_of(n), response_of(words.from(AFTER))) as u32),
+        36 => number(
+            matches_response(command_of(n), response_of(words.from(SECOND_RECORD))) as u32,
+        ),
         37 => values(values_of(n.b, n.c, n.d), n),
         38 => read_value(values_of(n.c, n.d, n.e).get(held, n.b as usize)),
         39 => written(response_of(words.from(2)).to_bytes(held, out)),

@@ -57,7 +57,7 @@ pub fn join(words: Words, bytes: &[u8], out: &mut [u8]) -> Answer {
     let second = octets::part(
         bytes,
         Place {
-            start: SECOND,
+            start: SECOND_BYTES,
             len: m.a as usize,
         },
     );

@@ -1,20 +1,8 @@
 // Commands and responses by their numbers: that of their kind, and those of their fields in order.
-use crate::values::addr_of;
-use crate::values::of_place;
-use crate::values::value;
-use crate::values::value_of;
-use crate::values::values;
-use crate::values::values_of;
-use bench_words::Numbers;
-use bench_words::answer::Answer;
-use bench_words::answer::fill;
-use bench_words::byte;
-use bench_words::form;
-use bench_words::half;
-use bench_words::low;
-use bench_words::of;
-use bench_words::place;
-use bench_words::read::MOST;
+use crate::values::*;
+use bench_words::answer::*;
+use bench_words::read::*;
+use bench_words::*;
 use commands::Commands;
 use commands::Commands::*;
 use facts::HardwareId;
@@ -29,7 +17,7 @@ use views::floats::FloatView;
 use views::memory::MemoryView;
 
 // Where the value of Write, and the first of the five of WriteBiquad, stands in its numbers.
-const VALUE: usize = 4;
+const VALUE_AT: usize = 4;
 
 pub fn command_of(n: Numbers) -> Commands {
     let kind = n.a;
@@ -116,14 +104,14 @@ fn with_address(n: Numbers) -> Commands {
 
 // The five values that stand beside a command: those of WriteBiquad, whose numbers stand behind its
 // bytes' and its room's.
-pub fn five_of(numbers: [u32; MOST]) -> [Coefficient; 5] {
+pub fn five_of(numbers: [u32; MOST_NUMBERS]) -> [Coefficient; 5] {
     let zero = Coefficient {
         value: Value::Float(0.0),
     };
     let mut all = [zero; 5];
     let mut i = 0;
     while i < 5 {
-        let at = 2 + VALUE + 3 * i;
+        let at = 2 + VALUE_AT + 3 * i;
         let value = value_of(numbers[at], numbers[at + 1], numbers[at + 2]);
         all[i] = Coefficient { value };
         i += 1;
@@ -146,7 +134,7 @@ fn with_five(short: Answer, five: [Coefficient; 5]) -> Answer {
         let coefficient = five[i];
         let one = coefficient.value;
         let n = value(one);
-        let at = VALUE + 3 * i;
+        let at = VALUE_AT + 3 * i;
         all[at] = n.a;
         all[at + 1] = n.b;
         all[at + 2] = n.c;

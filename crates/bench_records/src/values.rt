@@ -1,10 +1,5 @@
 // Addresses, values, kinds and sources by their numbers.
-use bench_words::Numbers;
-use bench_words::byte;
-use bench_words::half;
-use bench_words::low;
-use bench_words::of;
-use bench_words::place;
+use bench_words::*;
 use facts::probe::DeviceKind;
 use facts::probe::DeviceKind::*;
 use facts::source::Source;

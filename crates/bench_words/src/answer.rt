@@ -3,17 +3,17 @@ use crate::Numbers;
 use crate::form;
 use crate::low;
 use crate::of;
-use crate::read::MOST;
+use crate::read::MOST_NUMBERS;
 use octets::Done;
 use octets::Written;
 
 pub struct Answer {
     pub form: usize,
-    pub numbers: [u32; MOST],
+    pub numbers: [u32; MOST_NUMBERS],
 }
 
 pub fn fill(form: usize, n: Numbers) -> Answer {
-    let mut numbers = [0u32; MOST];
+    let mut numbers = [0u32; MOST_NUMBERS];
     numbers[0] = n.a;
     numbers[1] = n.b;
     numbers[2] = n.c;

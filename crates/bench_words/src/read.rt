@@ -12,18 +12,18 @@ use text::Number;
 use text::Pairs;
 
 // The most numbers that a request has, and the most words of the table that it takes to read one.
-pub const MOST: usize = 32;
+pub const MOST_NUMBERS: usize = 32;
 
-const STEPS: usize = 64;
+const MOST_STEPS: usize = 64;
 
 // The most digits that a word of bytes has.
-const LONGEST: usize = 2048;
+const LONGEST_WORD: usize = 2048;
 
 // Where the bytes of a request's second word of bytes stand; those of its first stand at 0.
-pub const SECOND: usize = 1024;
+pub const SECOND_BYTES: usize = 1024;
 
 // The number that `@` goes on with.
-pub const AFTER: usize = 20;
+pub const SECOND_RECORD: usize = 20;
 
 // The number of its verb, 0 where it has none, and whether that is one of a processor; the number of
 // its first word behind the verb that is not what it should be, 0 where there is none; how much output
@@ -33,14 +33,14 @@ pub struct Words {
     pub of_processor: bool,
     pub bad: usize,
     pub room: usize,
-    pub numbers: [u32; MOST],
+    pub numbers: [u32; MOST_NUMBERS],
 }
 
 impl Words {
     // Its numbers from one on.
     pub fn from(self, first: usize) -> Numbers {
         let numbers = self.numbers;
-        if MOST - 7 < first {
+        if MOST_NUMBERS - 7 < first {
             return crate::of(0, 0, 0, 0);
         }
         Numbers {
@@ -77,7 +77,7 @@ struct Reading {
     walk: Walk,
     counts: Counts,
     bad: bool,
-    numbers: [u32; MOST],
+    numbers: [u32; MOST_NUMBERS],
 }
 
 // Reads a request, and puts its bytes into `bytes`.
@@ -93,7 +93,7 @@ pub fn read(line: &[u8], bytes: &mut [u8]) -> Words {
 fn read_by(verb: usize, of_processor: bool, row: usize, line: &[u8], bytes: &mut [u8]) -> Words {
     let mut reading = begun(row, word_end(line));
     let mut steps = 0;
-    while steps < STEPS {
+    while steps < MOST_STEPS {
         reading = one_more(reading, line, bytes);
         steps += 1;
     }
@@ -101,7 +101,7 @@ fn read_by(verb: usize, of_processor: bool, row: usize, line: &[u8], bytes: &mut
 }
 
 fn begun(row: usize, at: usize) -> Reading {
-    let numbers = [0u32; MOST];
+    let numbers = [0u32; MOST_NUMBERS];
     let walk = table::walk_from(row);
     let counts = counting(at, 0, 1, 0, 0);
     Reading {
@@ -172,7 +172,7 @@ fn with(reading: Reading, walk: Walk, letter: u8, number: u32, at: usize) -> Rea
     let mut numbers = reading.numbers;
     let before = reading.counts;
     let count = before.numbers;
-    if MOST <= count {
+    if MOST_NUMBERS <= count {
         return stopped(reading);
     }
     numbers[count] = number;
@@ -190,19 +190,19 @@ fn counted(before: Counts, letter: u8, number: u32, at: usize) -> Counts {
     let word = before.word;
     let place = before.place;
     let room = before.room;
-    if STEPS < n {
+    if MOST_STEPS < n {
         return before;
     }
-    if STEPS < word {
+    if MOST_STEPS < word {
         return before;
     }
     match letter {
         b'_' => counting(at, n + 1, word, place, room),
-        b'@' => counting(at, AFTER, word, place, room),
+        b'@' => counting(at, SECOND_RECORD, word, place, room),
         b'!' => counting(at, n, word, place, 1024),
         b'r' => counting(at, n + 1, word + 1, place, number as usize),
         b'q' => counting(at, n + 1, word + 1, place, number as usize * 4),
-        b'x' => counting(at, n + 1, word + 1, SECOND, room),
+        b'x' => counting(at, n + 1, word + 1, SECOND_BYTES, room),
         _ => counting(at, n + 1, word + 1, place, room),
     }
 }
@@ -289,7 +289,7 @@ fn bytes_of(word: &[u8], digits: usize, bytes: &mut [u8]) -> Number
     if word.len() == 0 {
         return Number::Bad;
     }
-    if LONGEST < word.len() {
+    if LONGEST_WORD < word.len() {
         return Number::Bad;
     }
     if word.len() % digits != 0 {
