@@ -22,10 +22,10 @@ use octets::Written;
 use octets::refusal;
 use processor::Device;
 use processor::eeprom as memory;
-use saves::judge;
 use saves::replay;
 use saves::save;
-use saves::shape::Judged;
+use streams::judge;
+use streams::shape::Judged;
 use tally::Tally;
 use tally::receive::receive_lending;
 

@@ -19,9 +19,10 @@ use Rattle.commands.specs.Decode.{commandBy, commandOf}
 use Rattle.responses.specs.Decode.{responseOf, responseBy as responseKindOf}
 use Rattle.processor.specs.Memory.{Memory, oversized}
 use Rattle.saves.specs.Save.{saveField, shapeField, frameField, memoryPacket, wordPacket, rising, endField, blocks, fieldsFor, saveOf}
-use Rattle.saves.specs.Stream.{contentOf, behind, tagOf, streamUpTo, streamOf, endOf, shapeOf}
-use Rattle.saves.specs.Means.{packetMeans, frameMeans}
-use Rattle.saves.specs.Replay.{fieldsMean, judgedOf, judgedFor, replayOf}
+use Rattle.streams.specs.Stream.{contentOf, behind, tagOf, streamUpTo, streamOf, endOf, shapeOf}
+use Rattle.streams.specs.Means.{packetMeans, frameMeans}
+use Rattle.streams.specs.Judge.{fieldsMean, judgedOf, checkedFor}
+use Rattle.saves.specs.Replay.{replayOf}
 use Rattle.text.specs.Digits.{leading, decimal, hexDigits}
 use Rattle.listed.specs.Listing.{pairLine, settingLine, endLine, textFor}
 use Rattle.bench_list.specs.List.{BenchList, ReadsPastEnd}
@@ -35,7 +36,7 @@ unfolding ifLt partOf
 past-end d m payload out e s = rw (sized m e s, e)
 
 pub bench-list : BenchList
-unfolding ifLt ifEq bigAt littleAt bigBytes littleBytes over overAt partOf isOutside total frameOf magnitude roundTo patternOf cutSum encoded codeOf aroundZero bitsOfCode gainByte addrAt addrBytes packetOf commandBy commandOf responseOf responseKindOf saveField shapeField frameField memoryPacket wordPacket rising endField blocks fieldsFor saveOf contentOf behind tagOf streamUpTo streamOf endOf shapeOf packetMeans frameMeans fieldsMean judgedOf judgedFor replayOf leading decimal hexDigits pairLine settingLine endLine textFor
+unfolding ifLt ifEq bigAt littleAt bigBytes littleBytes over overAt partOf isOutside total frameOf magnitude roundTo patternOf cutSum encoded codeOf aroundZero bitsOfCode gainByte addrAt addrBytes packetOf commandBy commandOf responseOf responseKindOf saveField shapeField frameField memoryPacket wordPacket rising endField blocks fieldsFor saveOf contentOf behind tagOf streamUpTo streamOf endOf shapeOf packetMeans frameMeans fieldsMean judgedOf checkedFor replayOf leading decimal hexDigits pairLine settingLine endLine textFor
 bench-list =
     record {
       frame-empty = refl;

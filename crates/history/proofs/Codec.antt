@@ -34,7 +34,7 @@ use Rattle.responses.specs.declared.Responses.the-variants.{Ack}
 use Rattle.processor.specs.Memory.{Store, toEeprom, toSettings}
 use Rattle.device.specs.Effect.{effect, effectOf}
 use Rattle.processor.specs.declared.Device.{Device}
-use Rattle.saves.specs.Means.{packetMeans, frameMeans, memoryMeans, wordMeans}
+use Rattle.streams.specs.Means.{packetMeans, frameMeans, memoryMeans, wordMeans}
 
 pub strict-plain : (frame : List ℕ) {place : Place} → strictOf frame ≡ accepted place → plainOf frame ≡ accepted place
 strict-plain frame h =

@@ -1,24 +1,22 @@
 -- A replay leaves what its frames name, each by the codec's definitions as a received frame.
 use Prim.Native.Nat.{ℕ, zero, suc, _+_}
 use mathlib.Core.Path.{_≡_, refl, _∙_, subst}
-use mathlib.Core.Bool.{Bool, true, false}
 use mathlib.Core.List.{List, [], _∷_, _++_}
 use lib.ListN.{length, drop}
-use Rattle.octets.specs.Refusals.{tooLong, wrongSizes}
 use Rattle.octets.specs.Outcome.{Outcome, accepted, refused}
-use Rattle.octets.specs.Choice.{pick, ifLt}
 use Rattle.octets.specs.Number.{Octets}
-use Rattle.octets.proofs.Choosing.{either-lt, either-eq}
+use Rattle.octets.proofs.Choosing.{either-eq}
 use Rattle.octets.proofs.Outcomes.{then-both, same-value}
-use Rattle.processor.specs.Memory.{Memory, Store, oversized}
+use Rattle.processor.specs.Memory.{Memory, Store}
 use Rattle.processor.specs.Puts.{Within, AllWithin}
 use Rattle.processor.specs.declared.Device.{Device}
 use Rattle.device.proofs.Effects.{within}
-use Rattle.saves.specs.Stream.{lengthOf, contentOf, behind, tagOf, Stream, streamUpTo, streamOf}
-use Rattle.saves.specs.Means.{frameMeans, allMean}
-use Rattle.saves.specs.Replay.{Save, judgedFor, storing, replayOf}
+use Rattle.streams.specs.Stream.{lengthOf, contentOf, behind, tagOf, Stream, streamUpTo, streamOf}
+use Rattle.streams.specs.Means.{frameMeans, allMean}
+use Rattle.streams.specs.Judge.{Save, checkedFor}
+use Rattle.saves.specs.Replay.{storing, replayOf}
 use Rattle.history.proofs.Codec.{part-octets, frame-command}
-use Rattle.saves.proofs.Storing.{judged-means}
+use Rattle.streams.proofs.Sound.{checked-means}
 use Rattle.history.specs.History.{AllOctets, frameNames, framesNames, framesIn}
 use Rattle.history.proofs.Octets.{behind-octets}
 use Rattle.history.proofs.Steps.{Right}
@@ -56,7 +54,7 @@ module _ (d : Device) (e s : ℕ) where
 
 pub replay-right : (d : Device) (m : Memory) (l : List ℕ) → Octets l → Right m (replayOf m l .0) (framesNames d (length (m .eeprom)) (length (m .settings)) (framesIn l)) (replayOf m l .1)
 unfolding replayOf
-replay-right d m l octets = by-size (oversized m)
+replay-right d m l octets = stores (checkedFor e s l) refl
   where
     e : ℕ
     e = length (m .eeprom)
@@ -67,12 +65,8 @@ replay-right d m l octets = by-size (oversized m)
     P : Outcome Unit × Memory → Type 0
     P left = Right m (left .0) (framesNames d e s (framesIn l)) (left .1)
 
-    stores : (o : Outcome Save) → judgedFor e s l ≡ o → P (storing m o)
+    stores : (o : Outcome Save) → checkedFor e s l ≡ o → P (storing m o)
     stores (refused k) q = (refl, tt)
     stores (accepted save) q =
-        let names = frames-names d e s (framesIn l) (frames-octets l octets) (save .writes) (judged-means l e s q) in
+        let names = frames-names d e s (framesIn l) (frames-octets l octets) (save .writes) (checked-means l e s q) in
         rw (names .0) (refl, names .1)
-
-    by-size : (b : Bool) → P (pick b (refused wrongSizes, m) (ifLt 16777216 (length l) (refused tooLong, m) (storing m (judgedFor e s l))))
-    by-size true = (refl, tt)
-    by-size false = either-lt P _ _ _ _ (λ h. (refl, tt)) (λ h. stores (judgedFor e s l) refl)

@@ -15,7 +15,8 @@ use Rattle.processor.specs.Memory.{Memory, oversized}
 use Rattle.saves.specs.Save.{saveOf, savedInto}
 use Rattle.saves.specs.Replay.{replayOf}
 use Rattle.saves.specs.Writes.{Words}
-use Rattle.saves.proofs.Saved.{right-sizes, length-save, in-front}
+use Rattle.processor.proofs.Stores.{right-sizes}
+use Rattle.saves.proofs.Saved.{length-save, in-front}
 use Rattle.saves.proofs.Round.{restored}
 use Rattle.history.specs.Restores.{SameSizes, transferOf}
 

@@ -2,16 +2,14 @@
 -- they are received one after the other, each of them accepted.
 use Prim.Native.Nat.{ℕ, _≤_}
 use mathlib.Core.Path.{_≡_, refl, sym, ap, _∙_, subst}
-use mathlib.Core.Bool.{Bool, true, false}
+use mathlib.Core.Bool.{true, false}
 use mathlib.Core.List.{List, [], _∷_}
 use native.Mathlib.Omega.{arith}
 use lib.ListN.{length}
-use Rattle.octets.specs.Refusals.{tooLong, wrongSizes}
 use Rattle.octets.specs.Outcome.{Outcome, accepted, refused, onAccepted}
-use Rattle.octets.specs.Choice.{pick, ifLt}
 use Rattle.octets.specs.Over.{over}
 use Rattle.octets.specs.Number.{Octets}
-use Rattle.octets.proofs.Choosing.{above, either-lt, refused-accepted}
+use Rattle.octets.proofs.Choosing.{above, refused-accepted}
 use Rattle.octets.proofs.Outcomes.{then-both, same-value}
 use Rattle.packet.specs.Frame.{frameOf}
 use Rattle.fields.specs.Row.{packetOf, anyOf, encodedOf}
@@ -19,10 +17,11 @@ use Rattle.responses.specs.declared.Responses.the-variants.{Ack}
 use Rattle.processor.specs.Memory.{Memory, Store, storeOne, store, oversized}
 use Rattle.device.specs.Execute.{answerInto, receivedInto}
 use Rattle.processor.specs.declared.Device.{Device}
-use Rattle.saves.specs.Means.{frameMeans, allMean}
-use Rattle.saves.specs.Replay.{Save, judgedFor, storing, replayOf}
+use Rattle.streams.specs.Means.{frameMeans, allMean}
+use Rattle.streams.specs.Judge.{Save, checkedFor}
+use Rattle.saves.specs.Replay.{storing, replayOf}
 use Rattle.history.proofs.Codec.{Sends, frame-command}
-use Rattle.saves.proofs.Storing.{judged-means}
+use Rattle.streams.proofs.Sound.{checked-sized, checked-means}
 use Rattle.history.specs.History.{history, AllOctets, inTurn, AllAccepted, framesIn}
 use Rattle.history.proofs.Replays.{frames-octets}
 use Rattle.history.proofs.History.{put-sizes}
@@ -58,33 +57,25 @@ module _ (d : Device) (out : List ℕ) (room : 2 ≤ length out) where
 
 -- what is known of an accepted replay
 record Replayed (m : Memory) (l : List ℕ) (after : Memory) : Type 0 where
-  pub sized : oversized m ≡ false
   pub save : Save
-  pub judged : judgedFor (length (m .eeprom)) (length (m .settings)) l ≡ accepted save
+  pub checked : checkedFor (length (m .eeprom)) (length (m .settings)) l ≡ accepted save
   pub stores : after ≡ store (save .writes) m
 
 replayed : (m : Memory) (l : List ℕ) → replayOf m l .0 ≡ accepted tt → Replayed m l (replayOf m l .1)
 unfolding replayOf
-replayed m l = by-size (oversized m) refl
+replayed m l = stored o refl
   where
     o : Outcome Save
-    o = judgedFor (length (m .eeprom)) (length (m .settings)) l
+    o = checkedFor (length (m .eeprom)) (length (m .settings)) l
 
-    P : Outcome Unit × Memory → Type 0
-    P left = left .0 ≡ accepted tt → Replayed m l (left .1)
-
-    stored : oversized m ≡ false → (x : Outcome Save) → o ≡ x → P (storing m x)
-    stored q (refused k) r h = absurd (refused-accepted h)
-    stored q (accepted save) r h = record { sized = q; save = save; judged = r; stores = refl }
-
-    by-size : (b : Bool) → oversized m ≡ b → P (pick b (refused wrongSizes, m) (ifLt 16777216 (length l) (refused tooLong, m) (storing m o)))
-    by-size true q = λ h. absurd (refused-accepted h)
-    by-size false q = either-lt P _ _ _ _ (λ g h. absurd (refused-accepted h)) (λ g. stored q o refl)
+    stored : (x : Outcome Save) → o ≡ x → storing m x .0 ≡ accepted tt → Replayed m l (storing m x .1)
+    stored (refused k) r h = absurd (refused-accepted h)
+    stored (accepted save) r h = record { save = save; checked = r; stores = refl }
 
 -- an output of two bytes is enough for each
 pub replay-in-turn : (d : Device) (m : Memory) (l : List ℕ) (octets : Octets l) (out : List ℕ) → 2 ≤ length out → replayOf m l .0 ≡ accepted tt
     → let calls = inTurn (framesIn l) (frames-octets l octets) out in AllAccepted d calls m × (history d calls m ≡ replayOf m l .1)
 replay-in-turn d m l octets out room h =
     let r = replayed m l h in
-    let turn = in-turn d out room (framesIn l) (frames-octets l octets) m (r .save .writes) (r .sized) (judged-means l _ _ (r .judged)) in
+    let turn = in-turn d out room (framesIn l) (frames-octets l octets) m (r .save .writes) (checked-sized l _ _ (r .checked)) (checked-means l _ _ (r .checked)) in
     (turn .0, turn .1 ∙ sym (r .stores))

@@ -21,7 +21,7 @@ use Rattle.processor.specs.Create.{bareOf, newMemory, newOf}
 use Rattle.device.specs.Execute.{receivedInto, executedInto, executedRecord}
 use Rattle.processor.specs.declared.Device.{Device}
 use Rattle.saves.specs.Save.{savedInto}
-use Rattle.saves.specs.Stream.{streamOf}
+use Rattle.streams.specs.Stream.{streamOf}
 use Rattle.saves.specs.Replay.{replayOf}
 use Rattle.saves.specs.Writes.{writesFor}
 

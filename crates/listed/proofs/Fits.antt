@@ -15,17 +15,17 @@ use Rattle.octets.proofs.Parts.{length-part}
 use Rattle.packet.specs.Receipt.{lengthByte}
 use Rattle.fields.specs.Addr.{addrAt}
 use Rattle.processor.specs.Memory.{Store, toEeprom, toSettings}
-use Rattle.saves.specs.Stream.{lengthOf, contentOf, behind, tagOf, streamOf, endOf, packetIn}
-use Rattle.saves.specs.Means.{packetMeans, memoryMeans, wordMeans, frameMeans, allMean}
-use Rattle.saves.specs.Inside.{receiptOf}
-use Rattle.saves.specs.Replay.{Save, judgedOf}
+use Rattle.streams.specs.Stream.{lengthOf, contentOf, behind, tagOf, streamOf, endOf, packetIn}
+use Rattle.streams.specs.Means.{packetMeans, memoryMeans, wordMeans, frameMeans, allMean}
+use Rattle.streams.specs.Inside.{receiptOf}
+use Rattle.streams.specs.Judge.{Save, judgedOf}
 use Rattle.text.specs.Digits.{decimal}
 use Rattle.text.proofs.Digits.{decimal-short, length-hex}
 use Rattle.listed.specs.Listing.{pairLine, settingLine, endLine, writeLine, writeLines, textFor, textOf}
-use Rattle.saves.proofs.Streams.{tag-whole, length-behind, behind-shorter, stream-frame, stream-end}
-use Rattle.saves.proofs.Judging.{summed, frame-is, as-long}
-use Rattle.saves.proofs.Saved.{right-sizes}
-use Rattle.saves.proofs.Storing.{own}
+use Rattle.streams.proofs.Streams.{tag-whole, length-behind, behind-shorter, stream-frame, stream-end}
+use Rattle.streams.proofs.Judging.{summed, frame-is, as-long}
+use Rattle.processor.proofs.Stores.{right-sizes}
+use Rattle.streams.proofs.Sound.{own}
 
 -- ---- lines
 length-pair : (name : List ℕ) (a b : ℕ) → length (pairLine name a b) ≡ length name + length (decimal a) + length (decimal b) + 2

@@ -9,16 +9,16 @@ use Rattle.octets.specs.Over.{into, settle}
 use Rattle.octets.proofs.Choosing.{refused-accepted}
 use Rattle.octets.proofs.Outcomes.{then-both, same-value}
 use Rattle.processor.specs.Memory.{Store}
-use Rattle.saves.specs.declared.shape.Shape.{Shape}
-use Rattle.saves.specs.Stream.{contentOf, behind, tagOf, streamOf}
-use Rattle.saves.specs.Means.{frameMeans, allMean}
-use Rattle.saves.specs.Replay.{Save, judgedOf}
-use Rattle.saves.specs.Inside.{frameWrites, framesWrite}
+use Rattle.streams.specs.declared.shape.Shape.{Shape}
+use Rattle.streams.specs.Stream.{contentOf, behind, tagOf, streamOf}
+use Rattle.streams.specs.Means.{frameMeans, allMean}
+use Rattle.streams.specs.Judge.{Save, judgedOf}
+use Rattle.streams.specs.Inside.{frameWrites, framesWrite}
 use Rattle.listed.specs.Listing.{writeLines, textOf}
 use Rattle.listed.specs.Inside.{linesOf, framesText}
 use Rattle.listed.proofs.Fits.{text-fits}
-use Rattle.saves.proofs.Streams.{stream-frame, stream-end}
-use Rattle.saves.proofs.Storing.{own, own-writes}
+use Rattle.streams.proofs.Streams.{stream-frame, stream-end}
+use Rattle.streams.proofs.Sound.{own, own-writes}
 
 lines-append : (v w : List Store) → writeLines (v ++ w) ≡ writeLines v ++ writeLines w
 lines-append [] w = refl

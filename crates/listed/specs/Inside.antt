@@ -4,9 +4,9 @@ use mathlib.Core.Path.{_≡_}
 use mathlib.Core.List.{List}
 use lib.ListN.{length}
 use Rattle.octets.specs.Over.{overAt}
-use Rattle.saves.specs.declared.shape.Shape.{Shape}
-use Rattle.saves.specs.Stream.{streamOf}
-use Rattle.saves.specs.Inside.{framesWrite}
+use Rattle.streams.specs.declared.shape.Shape.{Shape}
+use Rattle.streams.specs.Stream.{streamOf}
+use Rattle.streams.specs.Inside.{framesWrite}
 use Rattle.listed.specs.Listing.{writeLines, textFor}
 
 -- Where a page has room for it, a text stands there from a place to the end that is told.

@@ -9,8 +9,8 @@ use Rattle.octets.specs.Choice.{ifLt}
 use Rattle.octets.specs.Over.{settle}
 use Rattle.text.specs.Digits.{decimal, hexDigits}
 use Rattle.processor.specs.Memory.{Store, toEeprom, toSettings}
-use Rattle.saves.specs.declared.shape.Shape.{Shape}
-use Rattle.saves.specs.Replay.{Save, judgedOf}
+use Rattle.streams.specs.declared.shape.Shape.{Shape}
+use Rattle.streams.specs.Judge.{Save, judgedOf}
 
 abbrev pub space : ℕ
 space = 32

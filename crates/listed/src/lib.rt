@@ -9,19 +9,19 @@ ghost use Rattle.octets.specs.Outcome.{written};
 ghost use Rattle.octets.specs.Over.{into};
 ghost use Rattle.text.specs.Digits.{decimal, hexDigits};
 ghost use Rattle.processor.specs.Change.{writesIn};
-ghost use Rattle.saves.specs.Stream.{streamOf};
-ghost use Rattle.saves.specs.Inside.{frameWrites};
+ghost use Rattle.streams.specs.Stream.{streamOf};
+ghost use Rattle.streams.specs.Inside.{frameWrites};
 ghost use Rattle.listed.specs.Listing.{space, lineEnd, pairLine, settingLine, endLine, writeLines, listedInto};
 ghost use Rattle.listed.specs.Inside.{Adds, linesOf, framesText};
 use octets::Written;
 use octets::refusal;
 use processor::change::Change;
-use saves::judge::judge;
-use saves::means::Meant;
-use saves::means::meaning_of;
-use saves::shape::Judged;
-use saves::shape::Shape;
-use saves::stream;
+use streams::judge::judge;
+use streams::means::Meant;
+use streams::means::meaning_of;
+use streams::shape::Judged;
+use streams::shape::Shape;
+use streams::stream;
 
 // The most bytes of a save that is listed.
 const LONGEST_LISTED: usize = 32_768;
@@ -72,7 +72,7 @@ fn add_text(shape: Shape, save: &[u8], page: &mut [u8]) -> usize
 {
     let e = shape.eeprom;
     let s = shape.settings;
-    let fields = octets::part(save, octets::rest_of(save, stream::FIRST));
+    let fields = stream::fields_of(save);
     let first = add_pair(b"shape ", e, s, 0, page);
     let lines = add_lines(fields, e, s, first, page);
     add_end(lines.frames, lines.end, page)

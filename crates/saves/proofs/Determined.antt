@@ -1,6 +1,5 @@
 -- Each public function's contract fixes its answer and what it leaves.
 use Prim.Native.Nat.{ℕ}
-use mathlib.Core.Path.{_≡_}
 use mathlib.Core.List.{List}
 use denote.Ref.{now}
 use Rattle.octets.specs.Outcome.{written, done}
@@ -9,62 +8,11 @@ use Rattle.octets.specs.declared.Done.{Done}
 use Rattle.octets.proofs.Agree.{Fixes, agree, both}
 use Rattle.octets.proofs.Determined.{written-once, done-once}
 use Rattle.processor.specs.Memory.{Memory, memory}
-use Rattle.saves.specs.Stream.{judged}
-use Rattle.saves.specs.Means.{meant}
-use Rattle.saves.specs.declared.shape.Judged.{Judged}
-use Rattle.saves.specs.declared.shape.Judged.the-variants.{Sound, Refused}
-use Rattle.saves.specs.declared.means.Meant.{Meant}
-use Rattle.saves.specs.declared.means.Meant.the-variants.{Is, Refused as NotMeant}
-use Rattle.saves.proofs.stream.tag_of.Reads as tag-of
-use Rattle.saves.proofs.stream.content_of.Reads as content-of
-use Rattle.saves.proofs.stream.field_end.Reads as field-end
-use Rattle.saves.proofs.stream.end_of.Reads as end-of
-use Rattle.saves.proofs.stream.packet_in.Reads as packet-in
-use Rattle.saves.proofs.shape.shape_of.Reads as shape-of
-use Rattle.saves.proofs.means.meaning_of.Reads as meaning-of
 use Rattle.saves.proofs.save.save.Reads as save
-use Rattle.saves.proofs.judge.judge.Reads as judge
 use Rattle.saves.proofs.replay.replay.Reads as replay
-
--- an answer is known by its reading
-pub judged-once : (a b : Judged) → judged a ≡ judged b → a ≡ b
-judged-once (Sound s) (Sound t) h = cc
-judged-once (Sound s) (Refused k) h = cc
-judged-once (Refused k) (Sound t) h = cc
-judged-once (Refused j) (Refused k) h = cc
-
-pub meant-once : (a b : Meant) → meant a ≡ meant b → a ≡ b
-meant-once (Is c) (Is d) h = cc
-meant-once (Is c) (NotMeant k) h = cc
-meant-once (NotMeant k) (Is d) h = cc
-meant-once (NotMeant j) (NotMeant k) h = cc
-
-pub tag-of-fixed : Fixes ℕ tag-of.Post (λ κs answer left. answer)
-tag-of-fixed κs args a b x y p q = agree p q
-
-pub content-of-fixed : Fixes (List ℕ) content-of.Post (λ κs answer left. now answer)
-content-of-fixed κs args a b x y p q = agree p q
-
-pub field-end-fixed : Fixes ℕ field-end.Post (λ κs answer left. answer)
-field-end-fixed κs args a b x y p q = agree p q
-
-pub end-of-fixed : Fixes Done end-of.Post (λ κs answer left. answer)
-end-of-fixed κs args a b x y p q = done-once a b (agree p q)
-
-pub packet-in-fixed : Fixes (List ℕ) packet-in.Post (λ κs answer left. now answer)
-packet-in-fixed κs args a b x y p q = agree p q
-
-pub shape-of-fixed : Fixes Judged shape-of.Post (λ κs answer left. answer)
-shape-of-fixed κs args a b x y p q = judged-once a b (agree p q)
-
-pub meaning-of-fixed : Fixes Meant meaning-of.Post (λ κs answer left. answer)
-meaning-of-fixed κs args a b x y p q = meant-once a b (agree p q)
 
 pub save-fixed : Fixes (Written × List ℕ) save.Post (λ κs answer left. (answer, now (left .1 .1 .0)))
 save-fixed κs args a b x y p q = both written written-once (agree p q)
-
-pub judge-fixed : Fixes Judged judge.Post (λ κs answer left. answer)
-judge-fixed κs args a b x y p q = judged-once a b (agree p q)
 
 pub replay-fixed : Fixes (Done × Memory) replay.Post (λ κs answer left. (answer, memory (now (left .0)) (now (left .1 .0))))
 replay-fixed κs args a b x y p q = both done done-once (agree p q)

@@ -13,9 +13,9 @@ use Rattle.packet.specs.Frame.{frameOf}
 use Rattle.packet.proofs.Frames.{length-frame}
 use Rattle.processor.specs.Memory.{Memory}
 use Rattle.saves.specs.Save.{saveField, frameField, memoryPacket, wordPacket, rising, endField, blocks, fieldsFor}
-use Rattle.saves.specs.Stream.{lengthOf, contentOf, behind, tagOf, stream, withFrame, streamOf}
+use Rattle.streams.specs.Stream.{lengthOf, contentOf, behind, tagOf, stream, withFrame, streamOf}
 use Rattle.saves.specs.Writes.{each, framesFor}
-use Rattle.saves.proofs.Streams.{stream-frame, stream-end}
+use Rattle.streams.proofs.Streams.{stream-frame, stream-end}
 use Rattle.saves.proofs.Saved.{length-memory-packet, length-word-packet, length-field}
 
 -- its length is written in two bytes

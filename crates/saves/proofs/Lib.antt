@@ -1,6 +1,3 @@
-pub mod Streams
-pub mod Judging
-pub mod Meaning
 pub mod Storing
 pub mod Saved
 pub mod Fields

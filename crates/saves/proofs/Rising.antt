@@ -10,6 +10,7 @@ use Rattle.octets.specs.Over.{over, overAt}
 use Rattle.octets.specs.Number.{at}
 use Rattle.processor.specs.Memory.{Memory, memory, Store, putAt, storeOne, store}
 use Rattle.octets.proofs.Overlay.{put-inside}
+use Rattle.processor.proofs.Stores.{store-append}
 use Rattle.saves.specs.Save.{blocks}
 use Rattle.saves.specs.Writes.{each, blockStore, wordStore, writesFor}
 
@@ -36,10 +37,6 @@ module _ (l l′ : List ℕ) (long : length l′ ≡ length l) where
 
   front-all : (n : ℕ) → length l ≤ n → front n ≡ l
   front-all n h = rw (take-all n l h, drop-of-length-le l′ {i = n} (omega arith), append-nil)
-
-pub store-append : (a b : List Store) (m : Memory) → store (a ++ b) m ≡ store b (store a m)
-store-append [] b m = refl
-store-append (w ∷ a) b m = store-append a b (storeOne w m)
 
 module _ (m m′ : Memory) (e-same : length (m′ .eeprom) ≡ length (m .eeprom)) (s-same : length (m′ .settings) ≡ length (m .settings)) where
   blocks-stored : (k : ℕ) → k ≤ blocks (length (m .eeprom)) → store (each (blockStore (m .eeprom)) k) m′ ≡ memory (front (m .eeprom) (m′ .eeprom) e-same (32 * k)) (m′ .settings)

@@ -12,10 +12,11 @@ use Rattle.octets.specs.Outcome.{accepted}
 use Rattle.octets.specs.Number.{at, bigAt, bigBytes}
 use Rattle.octets.proofs.Choosing.{above, same}
 use Rattle.octets.proofs.InBytes.{big-behind, big-back}
-use Rattle.processor.specs.Memory.{Memory, oversized}
+use Rattle.processor.specs.Memory.{Memory, tooLarge}
 use Rattle.saves.specs.Save.{saveField, shapeField, endField, blocks, fieldsFor, saveOf, room}
-use Rattle.saves.specs.Stream.{lengthOf, shape, shapeOf, endOf}
-use Rattle.saves.specs.Replay.{fieldsMean, judgedOf, judgedFor, replayOf}
+use Rattle.streams.specs.Stream.{lengthOf, shape, shapeOf, endOf}
+use Rattle.streams.specs.Judge.{fieldsMean, checkedFor}
+use Rattle.saves.specs.Replay.{replayOf}
 use Rattle.saves.specs.Writes.{Words, each, writesFor}
 use Rattle.saves.proofs.Saved.{length-shape, length-save}
 use Rattle.saves.proofs.Fields.{field-length, save-stream}
@@ -59,17 +60,16 @@ module _ (m : Memory) (few : length (m .eeprom) ≤ 65536) (words-few : length (
       let n : length (writesFor m) ≡ blocks e + s = rw (length-append, length-each, length-each) (omega arith) in
       rw (save-stream m, saved-writes m few words-few words, n, end-read (blocks e + s) (omega arith))
 
-  sized : (m′ : Memory) → length (m′ .eeprom) ≡ e → length (m′ .settings) ≡ s → oversized m′ ≡ false
-  sized m′ h g = sym (above _ _ _ _ _ (omega arith) (above _ _ _ _ _ (omega arith) refl))
+  sized : tooLarge e s ≡ false
+  sized = sym (above _ _ _ _ _ few (above _ _ _ _ _ words-few refl))
 
-  pub judged-sound : judgedFor e s (saveOf m) ≡ accepted (record { shape = shape e s; writes = writesFor m })
-  unfolding judgedFor judgedOf saveOf
-  judged-sound =
+  pub save-checked : checkedFor e s (saveOf m) ≡ accepted (record { shape = shape e s; writes = writesFor m })
+  unfolding checkedFor saveOf room blocks
+  save-checked =
       let behind : drop 11 (shapeField e s ++ fieldsFor m) ≡ fieldsFor m = drop-at (shapeField e s) (fieldsFor m) 11 (length-shape e s) in
       let read : shapeOf (shapeField e s ++ fieldsFor m) ≡ accepted (shape e s) = shape-read e s (fieldsFor m) few words-few in
-      rw read (sym (same _ _ _ _ _ refl (same _ _ _ _ _ refl (rw (sized m refl refl, behind, fields-mean)))))
+      rw sized (sym (above _ _ _ _ _ (omega (arith, length-save m)) (rw read (same _ _ _ _ _ refl (same _ _ _ _ _ refl (rw (behind, fields-mean)))))))
 
   pub restored : (m′ : Memory) → length (m′ .eeprom) ≡ e → length (m′ .settings) ≡ s → replayOf m′ (saveOf m) ≡ (accepted tt, m)
-  unfolding replayOf room blocks
-  restored m′ h g =
-      rw (sized m′ h g, h, g, judged-sound, stored-whole m m′ h g) (sym (above _ _ _ _ _ (omega (arith, length-save m)) refl))
+  unfolding replayOf
+  restored m′ h g = rw (h, g, save-checked, stored-whole m m′ h g)

@@ -1,7 +1,7 @@
 -- Laws of a save: what its packets are, how long its parts are, and that it is found where it was written.
 use Prim.Native.Nat.{ℕ, zero, suc, _+_, _-_, _*_, _/_, _%_, _^_, _≤_, min}
 use mathlib.Core.Path.{_≡_, refl, sym, ap, _∙_}
-use mathlib.Core.Bool.{true, false, true≢false}
+use mathlib.Core.Bool.{true}
 use mathlib.Core.List.{List, [], _∷_, _++_, append-assoc, append-nil}
 use native.Mathlib.Numerals.{add-one}
 use native.Mathlib.Omega.{arith}
@@ -12,7 +12,7 @@ use Rattle.octets.specs.Place.{placeAt, partOf}
 use Rattle.octets.specs.Choice.{ifLt, ifEq}
 use Rattle.octets.specs.Outcome.{Outcome, accepted}
 use Rattle.octets.specs.Over.{over, into}
-use Rattle.octets.proofs.Choosing.{above, passed}
+use Rattle.octets.proofs.Choosing.{above}
 use Rattle.octets.proofs.InBytes.{length-big, length-little}
 use Rattle.octets.proofs.Overlay.{put-over, put-rest, over-rest, length-over}
 use Rattle.octets.proofs.Parts.{part-short, is-inside}
@@ -22,7 +22,7 @@ use Rattle.fields.specs.Row.{packetOf, anyOf, encodedOf}
 use Rattle.fields.specs.declared.value.Value.the-variants.{Unknown}
 use Rattle.commands.specs.Encode.{commandRow}
 use Rattle.commands.specs.declared.Commands.the-variants.{WriteMemory, Write}
-use Rattle.processor.specs.Memory.{Memory, tooLarge}
+use Rattle.processor.specs.Memory.{Memory}
 use Rattle.saves.specs.Save.{saveField, shapeField, frameField, blockAt, memoryPacket, wordPacket, rising, endField, blocks, fieldsFor, saveOf, room}
 
 -- ---- the packets
@@ -104,10 +104,6 @@ length-words settings (suc k) = omega (arith, length-rising (wordPacket settings
 pub blocks-whole : (eeprom : List ℕ) → length (rising (memoryPacket eeprom) (blocks (length eeprom))) ≡ length eeprom + 8 * blocks (length eeprom)
 unfolding blocks
 blocks-whole eeprom = let e : ℕ = length eeprom in omega (arith, length-blocks eeprom ((e + 31) / 32))
-
--- memories that are not too large
-pub right-sizes : (e s : ℕ) → tooLarge e s ≡ false → (e ≤ 65536) × (s ≤ 65536)
-right-sizes e s h = let first = passed 65536 e true (ifLt 65536 s true false) false true≢false h in (first .0, passed 65536 s true false false true≢false (first .1) .0)
 
 module _ (m : Memory) where
   -- "Room: 18 + E + 8 times ceil(E/32) + 13S."

@@ -14,7 +14,7 @@ use Rattle.packet.proofs.Inverse.{strict-of-frame, packet-of-frame}
 use Rattle.fields.specs.Addr.{addrAt}
 use Rattle.processor.specs.Memory.{Memory, Store, toEeprom, toSettings}
 use Rattle.saves.specs.Save.{memoryPacket, wordPacket, blocks}
-use Rattle.saves.specs.Means.{packetMeans, frameMeans, allMean}
+use Rattle.streams.specs.Means.{packetMeans, frameMeans, allMean}
 use Rattle.saves.specs.Writes.{Words, each, framesFor, blockStore, wordStore, writesFor}
 use Rattle.saves.proofs.Saved.{memory-packet, word-packet}
 

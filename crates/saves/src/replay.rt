@@ -1,59 +1,27 @@
-// Replaying a save: it is judged whole, and only then stored.
+// Replaying a save: it is checked whole, and only then stored.
 ghost use mathlib.Core.Path.{_≡_};
 ghost use lib.ListN.{length};
 ghost use Rattle.processor.specs.Memory.{memory, store as storeAll};
 ghost use Rattle.octets.specs.Outcome.{done};
-ghost use Rattle.saves.specs.Stream.{streamOf};
-ghost use Rattle.saves.specs.Replay.{judgedFor, replayOf};
-ghost use Rattle.saves.specs.Inside.{noFault, framesWrite, frameWrites};
-use crate::LONGEST_SAVE;
-use crate::judge::judge;
-use crate::means::Meant;
-use crate::means::meaning_of;
-use crate::shape::Judged;
-use crate::shape::shape_of;
-use crate::stream;
+ghost use Rattle.streams.specs.Stream.{streamOf};
+ghost use Rattle.streams.specs.Inside.{framesWrite, frameWrites};
+ghost use Rattle.saves.specs.Replay.{replayOf};
 use octets::Done;
-use octets::refusal;
+use streams::judge::check_for;
+use streams::means::Meant;
+use streams::means::meaning_of;
+use streams::stream;
 
 // Stores what a save's frames write, in order.
 pub fn replay(eeprom: &mut [u8], settings: &mut [u32], save: &[u8]) -> Done
     ensures { λ r. ⌜ (done r, memory (now (eeprom .exit)) (now (settings .exit))) ≡ replayOf (memory (now (eeprom .entry)) (now (settings .entry))) (now (save .entry)) ⌝ }
 {
-    if processor::too_large(eeprom.len(), settings.len()) {
-        return Done::Refused(refusal::WRONG_SIZES);
-    }
-    if LONGEST_SAVE < save.len() {
-        return Done::Refused(refusal::TOO_LONG);
-    }
-    match judge_for(eeprom.len(), settings.len(), save) {
+    match check_for(eeprom.len(), settings.len(), save) {
         Done::Done => {
-            let fields = octets::part(save, octets::rest_of(save, stream::FIRST));
-            store_frames(fields, eeprom, settings);
+            store_frames(stream::fields_of(save), eeprom, settings);
             Done::Done
         }
         Done::Refused(k) => Done::Refused(k),
-    }
-}
-
-// A save for memories of other sizes is refused before its frames are looked at.
-fn judge_for(e: usize, s: usize, save: &[u8]) -> Done
-    ensures { λ r. ⌜ done r ≡ noFault (judgedFor e s (now (save .entry))) ⌝ }
-{
-    match shape_of(save) {
-        Judged::Sound(shape) => {
-            if shape.eeprom != e {
-                return Done::Refused(refusal::WRONG_SIZES);
-            }
-            if shape.settings != s {
-                return Done::Refused(refusal::WRONG_SIZES);
-            }
-        }
-        Judged::Refused(k) => return Done::Refused(k),
-    }
-    match judge(save) {
-        Judged::Sound(_) => Done::Done,
-        Judged::Refused(k) => Done::Refused(k),
     }
 }
 

@@ -11,7 +11,6 @@ ghost use Rattle.commands.specs.Encode.{commandRow};
 ghost use Rattle.commands.specs.Decode.{noValues};
 ghost use Rattle.processor.specs.Memory.{memory};
 ghost use Rattle.saves.specs.Save.{savedInto, saveOf, shapeField, endField, frameField, memoryPacket, wordPacket, rising};
-use crate::stream;
 use commands::Commands;
 use commands::decode::no_values;
 use fields::addr::Addr;
@@ -20,6 +19,7 @@ use octets::Place;
 use octets::Written;
 use octets::number;
 use octets::refusal;
+use streams::stream;
 
 // How many bytes of the EEPROM a frame has; the last may have fewer.
 const BLOCK: usize = 32;

@@ -1,6 +1,6 @@
 -- The line of its change, if it means one.
-use Rattle.saves.specs.Means.{packetMeans}
-use Rattle.saves.proofs.Meaning.{change-writes, none-writes}
+use Rattle.streams.specs.Means.{packetMeans}
+use Rattle.streams.proofs.Meaning.{change-writes, none-writes}
 use Rattle.listed.proofs.Adding.{adds-none}
 use borrow.Author.Needs.{needs}
 use Rattle.listed.proofs.add_frame.Statement.{statement}

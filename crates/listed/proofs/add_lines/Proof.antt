@@ -5,8 +5,8 @@ use mathlib.Core.List.{List}
 use native.Mathlib.Omega.{arith}
 use lib.ListN.{length}
 use borrow.Author.Needs.{needs}
-use Rattle.saves.specs.Stream.{tagOf, streamOf}
-use Rattle.saves.proofs.Streams.{tag-whole, behind-shorter, cut-behind}
+use Rattle.streams.specs.Stream.{tagOf, streamOf}
+use Rattle.streams.proofs.Streams.{tag-whole, behind-shorter, cut-behind}
 use Rattle.listed.specs.Inside.{Adds, linesOf}
 use Rattle.listed.proofs.Adding.{adds-none, adds-adds}
 use Rattle.listed.proofs.Lines.{lines-frame, lines-none, count-frame, count-none}

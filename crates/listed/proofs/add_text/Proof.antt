@@ -1,7 +1,4 @@
 -- The first line, those of the frames, the last line.
-use mathlib.Core.Path.{_≡_}
-use lib.ListN.{drop}
-use Rattle.octets.proofs.Parts.{part-rest}
 use Rattle.listed.specs.Listing.{textFor}
 use Rattle.listed.specs.Inside.{linesOf}
 use Rattle.listed.proofs.Adding.{adds-adds}
@@ -12,15 +9,14 @@ use Rattle.listed.proofs.add_text.Tie as tie
 returns : tie.Need-returns
 unfolding textFor linesOf
 returns c =
-    let fields : c .before .before .before .before .before .before .before .before .before .before .before .before .before .part .result .now ≡ drop 11 (c .before .before .before .before .before .before .before .before .before .before .before .before .before .before .before .before .before .args .save .now) = rw (c .before .before .before .before .before .before .before .before .before .before .before .before .before .before .rest-of .ensures, part-rest) at (c .before .before .before .before .before .before .before .before .before .before .before .before .before .part .ensures) in
-    let lines = rw fields at (c .before .before .before .before .before .before .add-lines .ensures) in
-    adds-adds (c .before .before .before .before .before .before .before .before .before .before .add-pair .ensures) (adds-adds (lines .1) (rw (lines .0) at (c .before .before .add-end .ensures)))
+    let first = c .before .before .before .before .before .before .before .before .before .before in
+    let lines = rw (first .before .before .before .fields-of .ensures) at (c .before .before .before .before .before .before .add-lines .ensures) in
+    adds-adds (first .add-pair .ensures) (adds-adds (lines .1) (rw (lines .0) at (c .before .before .add-end .ensures)))
 
 pub add-text-spec : {M : Type 1} → statement M
 add-text-spec =
     tie.close
     (tie.spec
-    (λ c κs. search needs)
     (λ c κs. search needs)
     (λ c. search needs)
     (λ c κs. search needs)

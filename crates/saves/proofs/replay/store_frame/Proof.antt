@@ -1,7 +1,7 @@
 -- What it means, if anything.
 use lib.ListN.{length}
-use Rattle.saves.specs.Means.{packetMeans}
-use Rattle.saves.proofs.Meaning.{change-writes, none-writes}
+use Rattle.streams.specs.Means.{packetMeans}
+use Rattle.streams.proofs.Meaning.{change-writes, none-writes}
 use borrow.Author.Needs.{needs}
 use Rattle.saves.proofs.replay.store_frame.Statement.{statement}
 use Rattle.saves.proofs.replay.store_frame.Tie as tie

@@ -6,9 +6,9 @@ use mathlib.Core.List.{List}
 use native.Mathlib.Omega.{arith}
 use lib.ListN.{length}
 use Rattle.processor.specs.Memory.{Memory, memory, store as storeAll}
-use Rattle.saves.specs.Stream.{tagOf, streamOf}
-use Rattle.saves.specs.Inside.{framesWrite}
-use Rattle.saves.proofs.Streams.{tag-whole, cut-behind, behind-shorter}
+use Rattle.streams.specs.Stream.{tagOf, streamOf}
+use Rattle.streams.specs.Inside.{framesWrite}
+use Rattle.streams.proofs.Streams.{tag-whole, cut-behind, behind-shorter}
 use Rattle.saves.proofs.Storing.{none-stored, frame-stored}
 use Rattle.saves.proofs.replay.store_frames.Statement.{statement}
 use Rattle.saves.proofs.replay.store_frames.Tie as tie

@@ -1,7 +1,7 @@
 -- Memories that are too large are refused.
 use borrow.Author.Needs.{needs}
 use mathlib.Core.Path.{sym, _∙_}
-use Rattle.saves.proofs.Saved.{right-sizes}
+use Rattle.processor.proofs.Stores.{right-sizes}
 use Rattle.saves.proofs.save.save.Statement.{statement}
 use Rattle.saves.proofs.save.save.Tie as tie
 

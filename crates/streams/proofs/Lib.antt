@@ -1,0 +1,5 @@
+pub mod Streams
+pub mod Judging
+pub mod Meaning
+pub mod Sound
+pub mod Determined
