@@ -1,5 +1,5 @@
--- Reading what was written gives the record back, with the exceptions of document 01: `back` says what comes back, and
--- `Readable` what does (specs/RoundTrip.antt).
+-- Reading what was written gives the record back, as far as it can: `back` says what comes back, and `Readable` of which records
+-- that is proved (specs/RoundTrip.antt).
 use Prim.Native.Nat.{ℕ, zero, suc, _+_, _-_, _*_, _%_, _^_, _≤_, _<_}
 use mathlib.Core.Path.{_≡_, refl, sym, ap, _∙_}
 use mathlib.Core.Bool.{Bool, true, false}

@@ -30,7 +30,8 @@ abbrev pub delayFor : AddrEncoding → ℕ → Value
 delayFor AddrLen2 n = Int32 n
 delayFor AddrLen3 n = Int (n % 2 ^ 16)
 
--- with fixed point a mute is a factor of 0 and its absence one of 1.0
+-- With addresses of two bytes a mute is a factor of 0 in 5.23, and its absence one of 1.0. It is the length of addresses that
+-- decides, as in the Rust, and not the encoding of floats.
 abbrev pub muteFor : AddrEncoding → Bool → Value
 muteFor AddrLen2 true = Int32 0
 muteFor AddrLen2 false = Int32 0x800000

@@ -1,4 +1,5 @@
--- What comes back of a command that is written and read again, with every exception of document 01.
+-- What comes back of a command that is written and read again, with all that changes on the way: the exceptions that document 01
+-- names, and those that the layouts make.
 use Prim.Native.Nat.{ℕ, _+_, _-_, _%_, _^_, _≤_, _<_}
 use mathlib.Core.Path.{_≡_}
 use mathlib.Core.Bool.{true}
@@ -57,10 +58,11 @@ abbrev pub FourEach : List ℕ → List Coefficient → Type 0
 FourEach p [] = Unit
 FourEach p (c ∷ cs) = (length (valueBytes (c .value) p) ≡ 4) × FourEach p cs
 
--- Which records come back; any other is read as something else, or refused. An address must be read in the width in which it is
--- written: 0x02 "3-byte address if r >= 3, else 2. So r = 3 is refused with 3 and only r >= 4 is read", 0x13 "3 if r >= 7, else 2",
--- and a mux switch's is read in two bytes. The five values of a biquad must take four bytes each, an unknown command must not
--- have the byte of a kind, and a u16 is below 2^16.
+-- Which records come back so. Of any other nothing is said: it may be refused, be read as something else, or, a biquad, come back
+-- as the same record with other values, for its 20 bytes are cut into fours wherever a value ended. An address must be read in the
+-- width in which it is written: 0x02 "3-byte address if r >= 3, else 2. So r = 3 is refused with 3 and only r >= 4 is read", 0x13
+-- "3 if r >= 7, else 2", and a mux switch's is read in two bytes. The five values of a biquad must take four bytes each, an unknown
+-- command must not have the byte of a kind, and a u16 is below 2^16.
 abbrev pub Readable : List ℕ → List Coefficient → Commands → Type 0
 Readable p values ReadHardwareId = Unit
 Readable p values (ReadFloats addr len) = addr < 2 ^ 16

@@ -1,4 +1,4 @@
--- "a refusal changes no processor memory and no lent output": one statement for each entry point.
+-- Demand 1: a refusal changes no processor memory and no lent output. One statement for each entry point.
 use Prim.Native.Nat.{ℕ}
 use mathlib.Core.Path.{_≡_, refl}
 use mathlib.Core.Bool.{Bool, true, false}

@@ -66,7 +66,8 @@ abbrev pub commandInto : Device → Bool → Commands → List ℕ → Memory �
 commandInto d framed c p m out = refusing m out (effectIn d p m c) (effectInto framed m out)
 
 -- "A command record executed directly: 14, 7, then 8 for an address in the answer and 6, both only where the answer's
--- bytes go to a lent output"
+-- bytes go to a lent output". Between 8 and 6 comes 5, for "packet over 254 bytes": `encodedOf` asks it of every packet
+-- (docs/DECISIONS.md).
 abbrev pub executedInto : Device → Commands → List ℕ → Memory → List ℕ → Left ℕ
 executedInto d c p m out = ifSized m out (commandInto d false c p m out)
 

@@ -5,22 +5,22 @@ use Prim.Native.Nat.{ℕ}
 abbrev pub atFirmwareVersion : ℕ
 atFirmwareVersion = 0xFFA1
 
--- "u32 Timestamp. Value that gets updated to a random value whenever a setting is changed."
+-- "u32 Timestamp", "Value that gets updated to a random value whenever a setting is changed."
 abbrev pub atTimestamp : ℕ
 atTimestamp = 0xFFC8
 
 abbrev pub atTimestamp2x4 : ℕ
 atTimestamp2x4 = 0x3FFC
 
--- "u8 Preset. Current input preset"
+-- "u8 Preset", "Current input preset"
 abbrev pub atPreset : ℕ
 atPreset = 0xFFD8
 
--- "u8 Source. Current input source (also known as "Digital IO")"
+-- "u8 Source", "Current input source (also known as "Digital IO")"
 abbrev pub atSource : ℕ
 atSource = 0xFFD9
 
--- "u8 Source. Only used for unsolicited update messages"
+-- "u8 Source", "Only used for unsolicited update messages"
 abbrev pub atSourceAsync : ℕ
 atSourceAsync = 0xFFA9
 

@@ -1,5 +1,5 @@
--- "Every frame in it means a write by demand 2's definition": received and read as any frame, each frame of a save names one
--- write, that of its block or its word.
+-- Every frame of a save means a write by demand 2's definition: received and read as any frame, it names one write, that of its
+-- block or its word.
 use Prim.Native.Nat.{ℕ, zero, suc, _+_, _*_, _%_, _^_, _≤_, _<_}
 use mathlib.Core.Path.{_≡_}
 use mathlib.Core.List.{List, [], _∷_, _++_}

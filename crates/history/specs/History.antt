@@ -1,5 +1,5 @@
--- Histories of a processor, and what they leave at each place. "After any run of calls, each byte and word of a processor
--- holds what the last accepted call naming it put there."
+-- Histories of a processor, and what they leave at each place. Demand 3: after any run of calls, each byte and word of a processor
+-- holds what the last accepted call naming it put there.
 use Prim.Native.Nat.{ℕ, _-_, _%_, _^_}
 use mathlib.Core.Path.{_≡_}
 use mathlib.Core.Option.{Option, none, some}

@@ -1,5 +1,6 @@
--- The 5.23 format and the two functions. What to_f32 returns is the code's meaning rounded once; the meaning of a
--- float's code is the float cut down to a step, where that is in the range, and elsewhere that number wrapped.
+-- The 5.23 format and the two functions. What to_f32 returns of a code of 28 bits is its meaning rounded once. A float's code means
+-- the float cut down to a step, where that is in the range; elsewhere the code's low 28 bits are that number's, wrapped, and it may
+-- have more bits than these.
 use mathlib.Core.Path.{_≡_, refl, sym, ap, _∙_, subst}
 use mathlib.Core.Logic.{inl, inr}
 use Prim.Native.Nat.{ℕ, zero, suc, _+_, _-_, _*_, _/_, _%_, _^_, _≤_, _<_, min}
@@ -162,7 +163,7 @@ module _ (bits : ℕ) where
   codes : Unheld s n → Codes (Low s p) (cutDown s n)
   codes h = rw (x-is, t-is) (coded s p (rw (x-is, t-is) at h))
 
-  -- the code's 28 bits are those of the float cut down to a step: it is wrapped
+  -- the code's low 28 bits are those of the float cut down to a step: it is wrapped
   pub wrapped : Unheld s n → codeOf bits % 2 ^ 28 ≡ lowBits 28 (cutDown s n)
   wrapped h = rw word-is (code-low (Low s p) ∙ codes h .low)
 

@@ -1,4 +1,4 @@
--- "a refusal changes no processor memory": one statement for each call on the memories alone.
+-- Demand 1: a refusal changes no processor memory. One statement for each call on the memories alone.
 use Prim.Native.Nat.{ℕ}
 use mathlib.Core.Path.{_≡_, refl}
 use mathlib.Core.Bool.{Bool, true, false}

@@ -24,7 +24,7 @@ writeU16 a value = writeBytes a (bigBytes 2 value)
 abbrev pub writeU32 : ℕ → ℕ → List ℕ → Outcome Unit × List ℕ
 writeU32 a value = writeBytes a (bigBytes 4 value)
 
--- "set_serial (saturating)": the subtraction of whole numbers stops at 0
+-- the Rust's `saturating_sub`: the subtraction of whole numbers stops at 0
 abbrev pub setSerial : ℕ → List ℕ → Outcome Unit × List ℕ
 setSerial value = writeU32 atSerial (value - 900000)
 

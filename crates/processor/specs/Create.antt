@@ -1,4 +1,4 @@
--- Devices on lent memories. "On a refusal the lent memories stay as they were."
+-- Devices on lent memories. On a refusal "memory and output stay equal to what they were at entry".
 use Prim.Native.Nat.{ℕ}
 use mathlib.Core.Bool.{Bool, true, false}
 use mathlib.Core.List.{List, [], _∷_}

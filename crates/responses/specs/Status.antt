@@ -39,7 +39,7 @@ abbrev pub orElse : {A : Type 0} → Option A → Option A → Option A
 orElse (some a) second = some a
 orElse none second = second
 
--- "Dirac where supported": a bypass of 0 is on
+-- only of a device that has Dirac Live; a bypass of 0 is on
 abbrev pub diracIn : DeviceInfo → Option ℕ → Option Bool
 diracIn info bypass = pick (supportsDirac (info .«dsp_version»)) (Option·map (λ n. eqb n 0) bypass) none
 
