@@ -55,7 +55,7 @@ pub record BenchList : Type 0 where
   pub receipt-05-31 : plainOf (0x05 ∷ 0x31 ∷ []) ≡ refused 2
   pub command-short : commandOf (0x02 ∷ 0x80 ∷ 0x10 ∷ 0x01 ∷ []) ≡ refused 3
   pub command-read : commandOf (0x02 ∷ 0x80 ∷ 0x00 ∷ 0x10 ∷ 0x04 ∷ []) ≡ accepted (Read (addrOf 16 3 true) 4)
-  pub command-floats : commandOf (0x3A ∷ 0x00 ∷ 0x00 ∷ 0x00 ∷ 0x80 ∷ 0x3F ∷ []) ≡ accepted (FirLoadData 0 2 0)
+  pub command-floats : commandOf (0x3A ∷ 0x00 ∷ 0x00 ∷ 0x00 ∷ 0x80 ∷ 0x3F ∷ []) ≡ accepted (FirLoadData 0 (record { start = 2; count = 0 }))
   pub codes-one : codeOf 0x3F800000 ≡ 0x00800000
   pub codes-minus-one : codeOf 0xBF800000 ≡ 0x0F800000
   pub codes-minus-17 : codeOf 0xC1880000 ≡ 0x07800000

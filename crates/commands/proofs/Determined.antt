@@ -28,6 +28,12 @@ use Rattle.commands.proofs.dialect.Dialect.int.Reads as int
 use Rattle.commands.proofs.dialect.Dialect.delay.Reads as delay
 use Rattle.commands.proofs.dialect.Dialect.mute.Reads as dialect-mute
 use Rattle.commands.proofs.dialect.Dialect.invert.Reads as invert
+use Rattle.commands.specs.declared.dialect.AddrEncoding.{AddrEncoding}
+use Rattle.commands.specs.declared.dialect.FloatEncoding.{FloatEncoding}
+use Rattle.commands.proofs.read_floats_max.Reads as read-floats-max
+use Rattle.commands.proofs.write_int.all.Reads as write-ints
+use Rattle.commands.proofs.dialect.AddrEncoding.default.Reads as addr-encoding
+use Rattle.commands.proofs.dialect.FloatEncoding.default.Reads as float-encoding
 
 -- an answer is known by its reading
 pub command-once : (a b : ReadCommand) → readCommand a ≡ readCommand b → a ≡ b
@@ -73,3 +79,15 @@ dialect-mute-fixed κs args a b x y p q = agree p q
 
 pub invert-fixed : Fixes Value invert.Post (λ κs answer left. answer)
 invert-fixed κs args a b x y p q = agree p q
+
+pub read-floats-max-fixed : Fixes ℕ read-floats-max.Post (λ κs answer left. answer)
+read-floats-max-fixed κs args a b x y p q = agree p q
+
+pub write-ints-fixed : Fixes (List ℕ) write-ints.Post (λ κs answer left. answer)
+write-ints-fixed κs args a b x y p q = agree p q
+
+pub addr-encoding-fixed : Fixes AddrEncoding addr-encoding.Post (λ κs answer left. answer)
+addr-encoding-fixed κs args a b x y p q = agree p q
+
+pub float-encoding-fixed : Fixes FloatEncoding float-encoding.Post (λ κs answer left. answer)
+float-encoding-fixed κs args a b x y p q = agree p q

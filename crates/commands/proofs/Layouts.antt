@@ -80,7 +80,7 @@ module _ (p packet : List ℕ) where
       let r : length (0x04 ∷ (bigBytes 2 addr ++ t)) - 3 ≡ place .len = omega arith in
       by-kind 0x04 (Word addr ∷ Payload place ∷ []) w ∙ rw (word-back 0x04 addr t u, r) (sym (above _ _ _ _ _ (omega arith) refl))
 
-  pub of-floats : (index start count : ℕ) → Written p (Byte 0x3A ∷ Byte index ∷ Floats start count ∷ []) packet → commandOf packet ≡ accepted (FirLoadData index 2 (count - 1))
+  pub of-floats : (index start count : ℕ) → Written p (Byte 0x3A ∷ Byte index ∷ Floats start count ∷ []) packet → commandOf packet ≡ accepted (FirLoadData index (record { start = 2; count = count - 1 }))
   unfolding packetOf commandBy ifEq
   of-floats index start count w =
       let t : List ℕ = partOf p (floatsAt start count) ++ [] in
@@ -139,7 +139,7 @@ module _ (p packet : List ℕ) where
         let width : widthIf (ltb 2 (n - 1)) ≡ a .len = rw r (by-length (λ k. widthIf (ltb 2 k) ≡ k) refl refl (a .len) (h .right)) in
         by-kind 0x19 (Address a ∷ []) w ∙ rw (width, h .here) (sym (above _ _ _ _ _ (omega arith) refl))
 
-    pub of-mux : (m slot : ℕ) → a .len ≡ 2 → Written p (Byte 0x29 ∷ Address a ∷ Byte m ∷ Byte slot ∷ []) packet → commandOf packet ≡ accepted (SwitchMux (cut a) (m % 128) (leb 128 m) slot)
+    pub of-mux : (m slot : ℕ) → a .len ≡ 2 → Written p (Byte 0x29 ∷ Address a ∷ Byte m ∷ Byte slot ∷ []) packet → commandOf packet ≡ accepted (SwitchMux (record { addr = cut a; max = m % 128; arg = leb 128 m; slot = slot }))
     unfolding packetOf commandBy ifEq
     of-mux m slot e w =
         let fs : List Field = Byte m ∷ Byte slot ∷ [] in

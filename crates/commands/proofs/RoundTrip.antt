@@ -74,13 +74,14 @@ module _ (p : List ℕ) (values : List Coefficient) (packet : List ℕ) where
   reads (Read addr len) u w = of-read p packet addr len u w
   reads (Write addr value) u w = of-write p packet addr value u w
   reads (FirLoadStart index) u w = by-kind p packet _ _ w
-  reads (FirLoadData index start count) u w = of-floats p packet index start count w
+  reads (FirLoadData index floats) u w = of-floats p packet index (floats .start) (floats .count) w
   reads FirLoadEnd u w = by-kind p packet _ _ w
   reads (DiracBypass value) u w = by-kind p packet _ _ w
   reads (BulkLoad payload) u w = by-kind p packet _ _ w ∙ ap (λ (place : Place). accepted (BulkLoad place)) (of-payload p packet _ payload w)
   reads (BulkLoadFilterData payload) u w = by-kind p packet _ _ w ∙ ap (λ (place : Place). accepted (BulkLoadFilterData place)) (of-payload p packet _ payload w)
   reads (Unk07 payload) u w = by-kind p packet _ _ w
-  reads (SwitchMux addr max arg slot) u w = of-mux p packet addr (muxByte max arg) slot u w ∙ rw (mux max arg .0, mux max arg .1)
+  reads (SwitchMux m) u w =
+      let byte = mux (m .max) (m .arg) in of-mux p packet (m .addr) (muxByte (m .max) (m .arg)) (m .slot) u w ∙ rw (byte .0, byte .1)
   reads (Unknown id payload) u w = of-unknown p packet id payload u w
 
   pub written-read : (c : Commands) → Readable p values c → encodedOf p (commandRow c values) ≡ accepted packet → commandOf packet ≡ accepted (back p c)
@@ -118,7 +119,7 @@ module _ (p : List ℕ) (values : List Coefficient) (packet : List ℕ) where
       let n : addr .len + 1 ≡ length (0x13 ∷ (addrBytes addr ++ [])) = omega (arith, length-addr addr, length-append (addrBytes addr) []) in
       rw (w .is) (stands p (Byte 0x13 ∷ Address addr ∷ []) [] (Coded value) (addr .len + 1) (length (valueBytes value p)) n refl)
 
-  pub floats-kept : (index start count : ℕ) → encodedOf p (commandRow (FirLoadData index start count) values) ≡ accepted packet
+  pub floats-kept : (index start count : ℕ) → encodedOf p (commandRow (FirLoadData index (record { start = start; count = count })) values) ≡ accepted packet
       → partOf packet (floatsAt 2 (count - 1)) ≡ partOf p (floatsAt start (count - 1))
   unfolding packetOf
   floats-kept index start count e =
@@ -169,7 +170,8 @@ module _ (p : List ℕ) (addr : Addr) (whole : addr .val < 2 ^ (8 * addr .len - 
   pub bypass-whole : back p (WriteBiquadBypass addr (addr .«extra_bit»)) ≡ WriteBiquadBypass addr (addr .«extra_bit»)
   bypass-whole = rw (cut-whole addr whole)
 
-  pub mux-whole : (max : ℕ) (arg : Bool) (slot : ℕ) → max < 128 → back p (SwitchMux addr max arg slot) ≡ SwitchMux addr max arg slot
+  pub mux-whole : (max : ℕ) (arg : Bool) (slot : ℕ) → max < 128
+      → let mux = SwitchMux (record { addr = addr; max = max; arg = arg; slot = slot }) in back p mux ≡ mux
   mux-whole max arg slot h = rw (cut-whole addr whole, mod-eq-of-lt h, lt-leb 128 max h, picked arg)
 
 pub volume-whole : (p : List ℕ) (k : ℕ) → k < 256 → back p (SetVolume (gainOf k)) ≡ SetVolume (gainOf k)

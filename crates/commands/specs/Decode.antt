@@ -66,7 +66,7 @@ abbrev pub setConfigOf : List ℕ → Outcome Commands
 setConfigOf p = needing 3 p (SetConfig (at p 1) (isSet (at p 2)))
 
 abbrev pub switchMuxOf : List ℕ → Outcome Commands
-switchMuxOf p = needing 5 p (SwitchMux (addrAt 2 p 1) (at p 3 % 128) (leb 128 (at p 3)) (at p 4))
+switchMuxOf p = needing 5 p (SwitchMux (record { addr = addrAt 2 p 1; max = at p 3 % 128; arg = leb 128 (at p 3); slot = at p 4 }))
 
 -- "3 if r > 24; then two bytes, then five values. r 0 to 3 gives 3; 4 to 23 gives 4."
 abbrev pub biquadOf : List ℕ → Outcome Commands
@@ -104,7 +104,7 @@ firStartOf p = needing 2 p (FirLoadStart (at p 1))
 
 -- "index, then floor((m-1)/4) little-endian floats for m bytes left, none if m = 0": m is the length less 2
 abbrev pub firDataOf : List ℕ → Outcome Commands
-firDataOf p = needing 2 p (FirLoadData (at p 1) 2 ((length p - 3) / 4))
+firDataOf p = needing 2 p (FirLoadData (at p 1) (record { start = 2; count = (length p - 3) / 4 }))
 
 abbrev pub gainOf : ℕ → Gain
 gainOf k = record { 0 = ofBits binary32 (bitsOfByte k) }

@@ -36,13 +36,13 @@ back p (WriteBiquadBypass addr value) = WriteBiquadBypass (cut (addrOf (addr .va
 back p (Read addr len) = Read (cut addr) len
 back p (Write addr value) = Write (cut addr) (reread (valueBytes value p) (addr .len + 1))
 back p (FirLoadStart index) = FirLoadStart index
-back p (FirLoadData index start count) = FirLoadData index 2 (count - 1)
+back p (FirLoadData index floats) = FirLoadData index (record { start = 2; count = floats .count - 1 })
 back p FirLoadEnd = FirLoadEnd
 back p (DiracBypass value) = Unknown 0x3F (placeAt 1 1)
 back p (BulkLoad payload) = BulkLoad (placeAt 1 (payload .len))
 back p (BulkLoadFilterData payload) = BulkLoadFilterData (placeAt 1 (payload .len))
 back p (Unk07 payload) = Unk07 payload
-back p (SwitchMux addr max arg slot) = SwitchMux (cut addr) (max % 128) (pick arg true (leb 128 max)) slot
+back p (SwitchMux mux) = SwitchMux (record { addr = cut (mux .addr); max = mux .max % 128; arg = pick (mux .arg) true (leb 128 (mux .max)); slot = mux .slot })
 back p (Unknown id payload) = Unknown id (placeAt 1 (payload .len))
 
 -- the command bytes that are read as a kind of their own
@@ -77,13 +77,13 @@ Readable p values (WriteBiquadBypass addr value) = Unit
 Readable p values (Read addr len) = addr .len ≡ 3
 Readable p values (Write addr value) = addr .len ≡ widthIf (leb 7 (addr .len + length (valueBytes value p)))
 Readable p values (FirLoadStart index) = Unit
-Readable p values (FirLoadData index start count) = Unit
+Readable p values (FirLoadData index floats) = Unit
 Readable p values FirLoadEnd = Unit
 Readable p values (DiracBypass value) = Unit
 Readable p values (BulkLoad payload) = Unit
 Readable p values (BulkLoadFilterData payload) = Unit
 Readable p values (Unk07 payload) = Unit
-Readable p values (SwitchMux addr max arg slot) = addr .len ≡ 2
+Readable p values (SwitchMux mux) = mux .addr .len ≡ 2
 Readable p values (Unknown id payload) = NoneOf id kinds
 
 -- Which packets are written again as they were read: those with nothing in them that reading passes by. "Extra bytes are ignored
@@ -104,11 +104,11 @@ Tidy p (WriteBiquadBypass addr value) = (length p ≡ addr .len + 1) × Clear (a
 Tidy p (Read addr len) = (length p ≡ addr .len + 2) × Clear (addr .len) p 1
 Tidy p (Write addr value) = Clear (addr .len) p 1
 Tidy p (FirLoadStart index) = length p ≡ 2
-Tidy p (FirLoadData index start count) = length p ≡ 2
+Tidy p (FirLoadData index floats) = length p ≡ 2
 Tidy p FirLoadEnd = length p ≡ 1
 Tidy p (DiracBypass value) = Unit
 Tidy p (BulkLoad payload) = Unit
 Tidy p (BulkLoadFilterData payload) = Unit
 Tidy p (Unk07 payload) = length p ≡ 2
-Tidy p (SwitchMux addr max arg slot) = (length p ≡ 5) × Clear 2 p 1
+Tidy p (SwitchMux mux) = (length p ≡ 5) × Clear 2 p 1
 Tidy p (Unknown id payload) = Unit

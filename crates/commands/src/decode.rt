@@ -6,6 +6,8 @@ ghost use lib.ListN.{length};
 ghost use Rattle.octets.specs.Reading.{needing as needed};
 ghost use Rattle.commands.specs.Decode.{readCommand, isSet, readOf, writeMemoryOf, readMemoryOf, unk07Of, writeOf, readFloatsOf, setMuteOf, bypassOf, setConfigOf, switchMuxOf, biquadOf, setSourceOf, firStartOf, firDataOf, setVolumeOf, commandBy, commandOf, noValues, unknownAt, fiveFrom, valuesAt};
 use crate::Commands;
+use crate::FirData;
+use crate::Mux;
 use fields::addr::Addr;
 use fields::value::Coefficient;
 use fields::value::Value;
@@ -185,16 +187,13 @@ fn parse_switch_mux(p: &[u8]) -> ReadCommand
     let addr = Addr::at(p, 1, false);
     let mux = number::byte(p, 3);
     let slot = number::byte(p, 4);
-    needing(
-        p,
-        5,
-        Commands::SwitchMux {
-            addr,
-            max: mux % 128,
-            arg: 128 <= mux,
-            slot,
-        },
-    )
+    let mux = Mux {
+        addr,
+        max: mux % 128,
+        arg: 128 <= mux,
+        slot,
+    };
+    needing(p, 5, Commands::SwitchMux(mux))
 }
 
 fn parse_biquad(p: &[u8]) -> ReadCommand
@@ -232,15 +231,8 @@ fn parse_fir_data(p: &[u8]) -> ReadCommand
 {
     let index = number::byte(p, 1);
     let count = octets::rest_of(p, 3).len / 4;
-    needing(
-        p,
-        2,
-        Commands::FirLoadData {
-            index,
-            start: 2,
-            count,
-        },
-    )
+    let data = FirData { start: 2, count };
+    needing(p, 2, Commands::FirLoadData { index, data })
 }
 
 fn parse_set_volume(p: &[u8]) -> ReadCommand

@@ -16,6 +16,22 @@ pub enum FloatEncoding {
     FixedPoint,
 }
 
+impl AddrEncoding {
+    pub fn default() -> Self
+        ensures { λ r. ⌜ r ≡ initial .«addr_encoding» ⌝ }
+    {
+        AddrEncoding::AddrLen3
+    }
+}
+
+impl FloatEncoding {
+    pub fn default() -> Self
+        ensures { λ r. ⌜ r ≡ initial .«float_encoding» ⌝ }
+    {
+        FloatEncoding::Float32LE
+    }
+}
+
 pub struct Dialect {
     // Length of addresses sent, 3 or 2
     pub addr_encoding: AddrEncoding,

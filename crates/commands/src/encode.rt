@@ -8,6 +8,8 @@ ghost use Rattle.fields.specs.declared.row.Field.the-variants.{Byte, Word, Addr
 ghost use Rattle.commands.specs.declared.Commands.the-variants.{WriteBiquad};
 ghost use Rattle.commands.specs.Encode.{commandRow, muxByte};
 use crate::Commands;
+use crate::FirData;
+use crate::Mux;
 use fields::addr::Addr;
 use fields::row;
 use fields::row::Cell;
@@ -49,22 +51,13 @@ fn command_row(command: Commands, values: [Coefficient; 5]) -> [Cell; 8]
         Commands::Read { addr, len } => address_row(0x02, addr, Field::Byte(len)),
         Commands::Write { addr, value } => address_row(0x13, addr, Field::Coded(value)),
         Commands::FirLoadStart { index } => byte_row(0x39, index),
-        Commands::FirLoadData {
-            index,
-            start,
-            count,
-        } => fir_row(index, start, count),
+        Commands::FirLoadData { index, data } => fir_row(index, data),
         Commands::FirLoadEnd => row::row1(Field::Byte(0x3b)),
         Commands::DiracBypass { value } => byte_row(0x3f, value),
         Commands::BulkLoad { payload } => payload_row(0x12, payload),
         Commands::BulkLoadFilterData { payload } => payload_row(0x06, payload),
         Commands::Unk07 { payload } => byte_row(0x07, payload),
-        Commands::SwitchMux {
-            addr,
-            max,
-            arg,
-            slot,
-        } => mux_row(addr, mux_byte(max, arg), slot),
+        Commands::SwitchMux(mux) => mux_row(mux),
         Commands::Unknown { cmd_id, payload } => payload_row(cmd_id, payload),
     }
 }
@@ -107,24 +100,29 @@ fn bypass_row(addr: Addr, value: bool) -> [Cell; 8]
     row::row2(Field::Byte(0x19), Field::Address(addr))
 }
 
-fn fir_row(index: u8, start: usize, count: usize) -> [Cell; 8]
-    ensures { λ r. ⌜ fieldsOf r ≡ padded (Byte 0x3A ∷ Byte index ∷ Floats start count ∷ []) ⌝ }
+fn fir_row(index: u8, data: FirData) -> [Cell; 8]
+    ensures { λ r. ⌜ fieldsOf r ≡ padded (Byte 0x3A ∷ Byte index ∷ Floats («data» .start) («data» .count) ∷ []) ⌝ }
 {
     row::row3(
         Field::Byte(0x3a),
         Field::Byte(index),
-        Field::Floats { start, count },
+        Field::Floats {
+            start: data.start,
+            count: data.count,
+        },
     )
 }
 
-fn mux_row(addr: Addr, mux: u8, slot: u8) -> [Cell; 8]
-    ensures { λ r. ⌜ fieldsOf r ≡ padded (Byte 0x29 ∷ Address addr ∷ Byte mux ∷ Byte slot ∷ []) ⌝ }
+fn mux_row(mux: Mux) -> [Cell; 8]
+    ensures { λ r. ⌜ fieldsOf r ≡ padded (Byte 0x29 ∷ Address (mux .addr) ∷ Byte (muxByte (mux .max) (mux .arg)) ∷ Byte (mux .slot) ∷ []) ⌝ }
 {
+    let addr = mux.addr;
+    let max = mux_byte(mux.max, mux.arg);
     row::row4(
         Field::Byte(0x29),
         Field::Address(addr),
-        Field::Byte(mux),
-        Field::Byte(slot),
+        Field::Byte(max),
+        Field::Byte(mux.slot),
     )
 }
 

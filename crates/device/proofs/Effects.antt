@@ -69,10 +69,10 @@ module _ (e s : ℕ) where
   within d p (Read a len) = tells _
   within d p (WriteBiquad a) = tells _
   within d p (WriteBiquadBypass a value) = tells _
-  within d p (FirLoadData index start count) = tells _
+  within d p (FirLoadData index floats) = tells _
   within d p FirLoadEnd = tells _
   within d p (DiracBypass value) = tells _
   within d p (BulkLoad payload) = tells _
   within d p (BulkLoadFilterData payload) = tells _
-  within d p (SwitchMux a max arg slot) = tells _
+  within d p (SwitchMux mux) = tells _
   within d p (Unknown id payload) = tells _

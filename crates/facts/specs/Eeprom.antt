@@ -1,5 +1,6 @@
 -- EEPROM addresses, "all addresses" of the Rust's, with its words on each. (eeprom.rs)
 use Prim.Native.Nat.{ℕ}
+use mathlib.Core.List.{List, [], _∷_}
 
 -- "u8 Firmware Version"
 abbrev pub atFirmwareVersion : ℕ
@@ -47,3 +48,9 @@ atSerial = 0xFFFC
 -- "u16 Serial (+900000) - also known as "board id" (16 bits version)"
 abbrev pub atSerialShort : ℕ
 atSerialShort = 0xFFFE
+
+-- in the Rust's order
+abbrev pub addresses : List ℕ
+addresses =
+    atFirmwareVersion ∷ atTimestamp ∷ atTimestamp2x4 ∷ atPreset ∷ atSource ∷ atSourceAsync
+    ∷ atMasterVolume ∷ atMute ∷ atDiracBypass ∷ atChannelMode ∷ atSerial ∷ atSerialShort ∷ []

@@ -1,5 +1,6 @@
 // Which device it is, by hardware id and dsp version. (device/probe.rs, all device features on)
 ghost use mathlib.Core.Path.{_≡_};
+ghost use Rattle.facts.specs.declared.probe.DeviceKind.the-variants.{Generic};
 ghost use Rattle.facts.specs.DeviceInfo.{deviceKind};
 use crate::DeviceInfo;
 use DeviceKind::*;
@@ -18,6 +19,14 @@ pub enum DeviceKind {
     M2x4,
     Flex,
     FlexHtx,
+}
+
+impl DeviceKind {
+    pub fn default() -> Self
+        ensures { λ r. ⌜ r ≡ Generic ⌝ }
+    {
+        Generic
+    }
 }
 
 // The kind of a device, Generic where none is known.

@@ -37,6 +37,10 @@ use Rattle.fields.proofs.row.row1.Reads as row1
 use Rattle.fields.proofs.row.row2.Reads as row2
 use Rattle.fields.proofs.row.row3.Reads as row3
 use Rattle.fields.proofs.row.row4.Reads as row4
+use Rattle.fields.proofs.value.Value.default.Reads as value-default
+use Rattle.fields.proofs.value.Value.from_f32.Reads as from-f32
+use Rattle.fields.proofs.value.Value.from_fixed_point.Reads as from-fixed-point
+use Rattle.fields.proofs.value.Value.from_u16.Reads as from-u16
 
 -- an answer is known by its reading
 pub addr-once : (a b : ReadAddr) → readAddr a ≡ readAddr b → a ≡ b
@@ -118,3 +122,15 @@ row3-fixed κs args a b x y p q = row-once a b (agree p q)
 
 pub row4-fixed : Fixes (List Cell) row4.Post (λ κs answer left. answer)
 row4-fixed κs args a b x y p q = row-once a b (agree p q)
+
+pub value-default-fixed : Fixes Value value-default.Post (λ κs answer left. answer)
+value-default-fixed κs args a b x y p q = agree p q
+
+pub from-f32-fixed : Fixes Value from-f32.Post (λ κs answer left. answer)
+from-f32-fixed κs args a b x y p q = agree p q
+
+pub from-fixed-point-fixed : Fixes Value from-fixed-point.Post (λ κs answer left. answer)
+from-fixed-point-fixed κs args a b x y p q = agree p q
+
+pub from-u16-fixed : Fixes Value from-u16.Post (λ κs answer left. answer)
+from-u16-fixed κs args a b x y p q = agree p q

@@ -1,7 +1,8 @@
 // Values of commands and responses. (Value of commands.rs)
 ghost use mathlib.Core.Path.{_≡_};
+ghost use lib.Ieee.{binary32, ofBits};
 ghost use Rattle.octets.specs.Over.{into};
-ghost use Rattle.fields.specs.declared.value.Value.the-variants.{Unknown};
+ghost use Rattle.fields.specs.declared.value.Value.the-variants.{Float, FixedPoint as FixedValue, Int, Unknown};
 ghost use Rattle.octets.specs.Outcome.{written};
 ghost use Rattle.fields.specs.Value.{valueAt, readValue, valueFrom, valueOutside, valueInto};
 use numbers::fixed_point::FixedPoint;
@@ -32,6 +33,31 @@ pub enum ReadValue {
 }
 
 impl Value {
+    pub fn default() -> Value
+        ensures { λ r. ⌜ r ≡ Float (ofBits binary32 0) ⌝ }
+    {
+        Value::Float(0.0)
+    }
+
+    // The Rust's `From` for each.
+    pub fn from_f32(x: f32) -> Value
+        ensures { λ r. ⌜ r ≡ Float x ⌝ }
+    {
+        Value::Float(x)
+    }
+
+    pub fn from_fixed_point(x: FixedPoint) -> Value
+        ensures { λ r. ⌜ r ≡ FixedValue x ⌝ }
+    {
+        Value::FixedPoint(x)
+    }
+
+    pub fn from_u16(n: u16) -> Value
+        ensures { λ r. ⌜ r ≡ Int n ⌝ }
+    {
+        Value::Int(n)
+    }
+
     // The value at a place of a packet.
     pub fn from_bytes(packet: &[u8], place: Place) -> ReadValue
         ensures { λ r. ⌜ readValue r ≡ valueFrom (now (packet .entry)) place ⌝ }

@@ -79,12 +79,12 @@ module _ (d : Device) (e s : ℕ) where
     effect-words (Read a len) = tt
     effect-words (WriteBiquad a) = tt
     effect-words (WriteBiquadBypass a value) = tt
-    effect-words (FirLoadData index start count) = tt
+    effect-words (FirLoadData index floats) = tt
     effect-words FirLoadEnd = tt
     effect-words (DiracBypass value) = tt
     effect-words (BulkLoad payload) = tt
     effect-words (BulkLoadFilterData payload) = tt
-    effect-words (SwitchMux a max arg slot) = tt
+    effect-words (SwitchMux mux) = tt
     effect-words (Unknown id payload) = tt
 
   frame-words : (frame : List ℕ) → Octets frame → AllWords (frameNames d e s frame)

@@ -14,3 +14,10 @@ gainByte bits =
     ifEq (exponent bits) 255
     (ifEq (fraction bits) 0 255 0)
     (min (magnitude (exponent bits) (fraction bits) / 2 ^ 148) 255)
+
+-- `Gain::MIN` and `Gain::MAX`, -127 and 0, as patterns
+abbrev pub leastGain : ℕ
+leastGain = 0xC2FE0000
+
+abbrev pub mostGain : ℕ
+mostGain = 0

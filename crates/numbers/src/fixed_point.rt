@@ -11,6 +11,12 @@ use crate::float::to_bits;
 pub struct FixedPoint(pub u32);
 
 impl FixedPoint {
+    pub fn default() -> Self
+        ensures { λ r. ⌜ r .0 ≡ 0 ⌝ }
+    {
+        FixedPoint::from_u32(0)
+    }
+
     pub fn from_u32(val: u32) -> Self
         ensures { λ r. ⌜ r .0 ≡ val ⌝ }
     {

@@ -1,12 +1,31 @@
 // A gain as a byte of half decibels down, and as a float. (Gain of commands.rs)
 ghost use mathlib.Core.Path.{_≡_};
 ghost use lib.Ieee.{binary32, toBits, ofBits};
-ghost use Rattle.numbers.specs.Gain.{gainByte, bitsOfByte};
+ghost use Rattle.numbers.specs.Gain.{leastGain, mostGain, gainByte, bitsOfByte};
 use crate::float::to_bits;
 
 pub struct Gain(pub f32);
 
 impl Gain {
+    // The ends of the range in decibels, which are told and not held to. (MIN, MAX)
+    pub fn min() -> f32
+        ensures { λ r. ⌜ r ≡ ofBits binary32 leastGain ⌝ }
+    {
+        -127.0
+    }
+
+    pub fn max() -> f32
+        ensures { λ r. ⌜ r ≡ ofBits binary32 mostGain ⌝ }
+    {
+        0.0
+    }
+
+    pub fn default() -> Self
+        ensures { λ r. ⌜ r .0 ≡ ofBits binary32 0 ⌝ }
+    {
+        Gain(0.0)
+    }
+
     // Minus one half times the byte: 0 gives -0.0.
     pub fn from_u8(val: u8) -> Self
         ensures { λ r. ⌜ r .0 ≡ ofBits binary32 (bitsOfByte val) ⌝ }

@@ -21,6 +21,8 @@ use Rattle.processor.proofs.eeprom.write_eeprom_u16.Reads as write-u16
 use Rattle.processor.proofs.eeprom.write_eeprom_u32.Reads as write-u32
 use Rattle.processor.proofs.eeprom.set_serial.Reads as set-serial
 use Rattle.processor.proofs.eeprom.set_timestamp.Reads as set-timestamp
+use Rattle.processor.proofs.create.default.Reads as device-default
+use Rattle.processor.specs.declared.Device.{Device}
 
 -- an answer is known by its reading
 pub made-once : (a b : Made) → made a ≡ made b → a ≡ b
@@ -55,3 +57,6 @@ set-timestamp-fixed κs args a b x y p q = both done done-once (agree p q)
 
 pub store-fixed : Fixes Memory store.Post (λ κs answer left. memory (now (left .1 .1 .0)) (now (left .1 .1 .1 .0)))
 store-fixed κs args a b x y p q = agree p q
+
+pub device-default-fixed : Fixes Device device-default.Post (λ κs answer left. answer)
+device-default-fixed κs args a b x y p q = agree p q

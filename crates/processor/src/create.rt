@@ -3,6 +3,7 @@ ghost use mathlib.Core.Path.{_≡_};
 ghost use mathlib.Core.List.{[]};
 ghost use Prim.Native.Nat.{_<_};
 ghost use lib.ListN.{length, replicate, getD};
+ghost use Rattle.facts.specs.declared.probe.DeviceKind.the-variants.{Generic};
 ghost use Rattle.processor.specs.Memory.{memory, store};
 ghost use Rattle.processor.specs.Create.{made, deviceOf, bareOf, newOf, newWrites, anyBeyond, withMeters};
 use crate::Device;
@@ -22,6 +23,14 @@ pub enum Made {
 
 // The pattern of -60.0, which a meter shows first.
 const METER: u32 = 0xC270_0000;
+
+// The device of the Rust's `Default`, whose FIR taps are those of the 2x4 HD's table; its memories have
+// nothing in them.
+pub fn default(fir_max_taps: u16) -> Device
+    ensures { λ r. ⌜ r ≡ deviceOf 10 100 Generic «fir_max_taps» ⌝ }
+{
+    device_of(10, 100, DeviceKind::Generic, fir_max_taps)
+}
 
 pub fn bare(
     hw_id: u8,

@@ -49,6 +49,7 @@ use Rattle.responses.proofs.Responses.is_fir_size.Reads as is-fir-size
 use Rattle.responses.proofs.Responses.into_fir_size.Reads as into-fir-size
 use Rattle.responses.proofs.matching.matches_response.Reads as matches-response
 use Rattle.responses.proofs.status.MasterStatus.from_memory.Reads as from-memory
+use Rattle.responses.proofs.status.MasterStatus.default.Reads as status-default
 
 -- an answer is known by its reading
 pub response-once : (a b : ReadResponse) → readResponse a ≡ readResponse b → a ≡ b
@@ -153,3 +154,6 @@ matches-response-fixed κs args a b x y p q = agree p q
 
 pub from-memory-fixed : Fixes MasterStatus from-memory.Post (λ κs answer left. answer)
 from-memory-fixed κs args a b x y p q = status-once a b (agree p q)
+
+pub status-default-fixed : Fixes MasterStatus status-default.Post (λ κs answer left. answer)
+status-default-fixed κs args a b x y p q = status-once a b (agree p q)

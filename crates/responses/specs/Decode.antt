@@ -1,13 +1,14 @@
 -- What a packet reads as, as document 01 has it under "Commands and responses", in the order of `Responses::from_bytes`.
-use Prim.Native.Nat.{ℕ, _-_, _/_}
+use Prim.Native.Nat.{ℕ}
 use mathlib.Core.List.{List}
 use lib.ListN.{length}
 use Rattle.octets.specs.Refusals.{tooLong}
-use Rattle.octets.specs.Outcome.{Outcome, accepted, refused}
+use Rattle.octets.specs.Outcome.{Outcome, accepted, refused, onAccepted}
 use Rattle.octets.specs.Choice.{ifLt, ifEq}
 use Rattle.octets.specs.Number.{at, bigAt}
 use Rattle.octets.specs.Reading.{needing, rest}
 use Rattle.fields.specs.Addr.{addrAt}
+use Rattle.views.specs.View.{memoryIn, floatsIn}
 use Rattle.responses.specs.declared.Responses.{Responses}
 use Rattle.responses.specs.declared.Responses.the-variants.{Ack, Read, MemoryData, FloatData, HardwareId, FirLoadSize, ConfigChanged, Unknown}
 use Rattle.responses.specs.declared.Values.the-variants.{Chunks}
@@ -23,11 +24,10 @@ abbrev pub readDataOf : List ℕ → Outcome Responses
 readDataOf p = needing 3 p (Read (addrAt 2 p 1) (Chunks (rest 3 p)))
 
 abbrev pub memoryOf : List ℕ → Outcome Responses
-memoryOf p = needing 3 p (MemoryData (record { base = bigAt 2 p 1; «data» = rest 3 p }))
+memoryOf p = onAccepted MemoryData (memoryIn p)
 
--- "0x14 drops a short tail"
 abbrev pub floatsOf : List ℕ → Outcome Responses
-floatsOf p = needing 3 p (FloatData (record { base = bigAt 2 p 1; start = 3; count = (length p - 3) / 4 }))
+floatsOf p = onAccepted FloatData (floatsIn p)
 
 abbrev pub hardwareIdOf : List ℕ → Outcome Responses
 hardwareIdOf p = needing 4 p (HardwareId (record { «fw_major» = at p 1; «fw_minor» = at p 2; «hw_id» = at p 3 }))

@@ -60,6 +60,10 @@ status s =
       dirac = knownFlag (s .dirac);
     }
 
+-- the Rust's `Default`
+abbrev pub unknown : Status
+unknown = record { preset = none; source = none; volume = none; mute = none; dirac = none }
+
 -- the source has a fallback address
 abbrev pub statusOf : DeviceInfo → MemoryView → List ℕ → Status
 statusOf info view bytes =

@@ -9,6 +9,8 @@ use fields::addr::Addr;
 use octets::number;
 use octets::refusal;
 use views::floats::FloatView;
+use views::floats::FloatsAnswer;
+use views::memory::MemoryAnswer;
 use views::memory::MemoryView;
 
 // A response that was read, or the number of the refusal.
@@ -71,22 +73,19 @@ fn parse_read_data(p: &[u8]) -> ReadResponse
 fn parse_memory(p: &[u8]) -> ReadResponse
     ensures { λ r. ⌜ readResponse r ≡ memoryOf (now (p .entry)) ⌝ }
 {
-    let base = number::big16(p, 1);
-    let data = octets::rest_of(p, 3);
-    needing(p, 3, Responses::MemoryData(MemoryView { base, data }))
+    match MemoryView::from_packet(p) {
+        MemoryAnswer::Is(view) => ReadResponse::Response(Responses::MemoryData(view)),
+        MemoryAnswer::Refused(k) => ReadResponse::Refused(k),
+    }
 }
 
 fn parse_floats(p: &[u8]) -> ReadResponse
     ensures { λ r. ⌜ readResponse r ≡ floatsOf (now (p .entry)) ⌝ }
 {
-    let base = number::big16(p, 1);
-    let count = octets::rest_of(p, 3).len / 4;
-    let view = FloatView {
-        base,
-        start: 3,
-        count,
-    };
-    needing(p, 3, Responses::FloatData(view))
+    match FloatView::from_packet(p) {
+        FloatsAnswer::Is(view) => ReadResponse::Response(Responses::FloatData(view)),
+        FloatsAnswer::Refused(k) => ReadResponse::Refused(k),
+    }
 }
 
 fn parse_hardware_id(p: &[u8]) -> ReadResponse

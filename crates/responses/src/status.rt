@@ -5,7 +5,7 @@ ghost use lib.Dec.{eqb};
 ghost use Rattle.commands.specs.Decode.{gainOf};
 ghost use Rattle.facts.specs.Source.{fromId, mappingOf};
 ghost use Rattle.views.specs.Reading.{readByte};
-ghost use Rattle.responses.specs.Status.{orElse, knownInput, knownVolume, knownFlag, diracIn, status, statusOf};
+ghost use Rattle.responses.specs.Status.{orElse, knownInput, knownVolume, knownFlag, diracIn, status, unknown, statusOf};
 use facts::DeviceInfo;
 use facts::eeprom;
 use facts::source::Source;
@@ -43,6 +43,19 @@ pub struct MasterStatus {
 }
 
 impl MasterStatus {
+    // Nothing is known.
+    pub fn default() -> Self
+        ensures { λ r. ⌜ status r ≡ unknown ⌝ }
+    {
+        MasterStatus {
+            preset: ReadByte::Outside,
+            source: Input::Unknown,
+            volume: Volume::Unknown,
+            mute: Flag::Unknown,
+            dirac: Flag::Unknown,
+        }
+    }
+
     pub fn from_memory(info: DeviceInfo, view: MemoryView, bytes: &[u8]) -> Self
         ensures { λ r. ⌜ status r ≡ statusOf info view (now (bytes .entry)) ⌝ }
     {

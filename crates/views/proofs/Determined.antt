@@ -24,6 +24,12 @@ use Rattle.views.proofs.memory.MemoryView.read_u16.Reads as read-u16
 use Rattle.views.proofs.memory.MemoryView.extend_with.Reads as memory-extend
 use Rattle.views.proofs.floats.FloatView.get.Reads as get
 use Rattle.views.proofs.floats.FloatView.extend_with.Reads as floats-extend
+use Rattle.views.proofs.memory.MemoryView.default.Reads as memory-default
+use Rattle.views.proofs.memory.MemoryView.from_packet.Reads as memory-from-packet
+use Rattle.views.proofs.floats.FloatView.default.Reads as floats-default
+use Rattle.views.proofs.floats.FloatView.from_packet.Reads as floats-from-packet
+use Rattle.views.specs.declared.memory.MemoryView.{MemoryView}
+use Rattle.views.specs.declared.floats.FloatView.{FloatView}
 
 -- an answer is known by its reading
 pub part-once : (a b : ReadPart) → readPart a ≡ readPart b → a ≡ b
@@ -79,3 +85,15 @@ memory-extend-fixed κs args a b x y p q = both memoryAnswer memory-once (agree 
 
 pub floats-extend-fixed : Fixes (FloatsAnswer × List ℕ) floats-extend.Post (λ κs answer left. (answer, now (left .1 .1 .1 .1 .0)))
 floats-extend-fixed κs args a b x y p q = both floatsAnswer floats-once (agree p q)
+
+pub memory-default-fixed : Fixes MemoryView memory-default.Post (λ κs answer left. answer)
+memory-default-fixed κs args a b x y p q = agree p q
+
+pub memory-from-packet-fixed : Fixes MemoryAnswer memory-from-packet.Post (λ κs answer left. answer)
+memory-from-packet-fixed κs args a b x y p q = memory-once a b (agree p q)
+
+pub floats-default-fixed : Fixes FloatView floats-default.Post (λ κs answer left. answer)
+floats-default-fixed κs args a b x y p q = agree p q
+
+pub floats-from-packet-fixed : Fixes FloatsAnswer floats-from-packet.Post (λ κs answer left. answer)
+floats-from-packet-fixed κs args a b x y p q = floats-once a b (agree p q)

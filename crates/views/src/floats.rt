@@ -3,7 +3,7 @@ ghost use mathlib.Core.Path.{_≡_};
 ghost use Prim.Native.Nat.{_*_, _≤_};
 ghost use Rattle.octets.specs.Outcome.{written, onAccepted};
 ghost use Rattle.octets.specs.Place.{isOutside};
-ghost use Rattle.views.specs.View.{viewOfFloats, floatsAnswer};
+ghost use Rattle.views.specs.View.{noFloats, floatsIn, viewOfFloats, floatsAnswer};
 ghost use Rattle.views.specs.Reading.{readBits, bitsAt};
 ghost use Rattle.views.specs.Joining.{floatsFrom, floatsJoin};
 use crate::ReadPart;
@@ -47,6 +47,30 @@ fn joined_floats(base: u16, answer: Written) -> FloatsAnswer
 }
 
 impl FloatView {
+    pub fn default() -> Self
+        ensures { λ r. ⌜ r ≡ noFloats ⌝ }
+    {
+        FloatView {
+            base: 0,
+            start: 0,
+            count: 0,
+        }
+    }
+
+    // The floats of a 0x14 packet; one to three bytes left over are dropped.
+    pub fn from_packet(packet: &[u8]) -> FloatsAnswer
+        ensures { λ r. ⌜ floatsAnswer r ≡ floatsIn (now (packet .entry)) ⌝ }
+    {
+        if packet.len() < 3 {
+            return FloatsAnswer::Refused(refusal::ENDS);
+        }
+        FloatsAnswer::Is(FloatView {
+            base: number::big16(packet, 1),
+            start: 3,
+            count: (packet.len() - 3) / 4,
+        })
+    }
+
     fn is_outside(self, have: usize) -> bool
         ensures { λ r. ⌜ r ≡ isOutside (viewOfFloats self .place) have ⌝ }
     {

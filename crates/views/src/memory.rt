@@ -3,7 +3,7 @@ ghost use mathlib.Core.Path.{_≡_};
 ghost use Prim.Native.Nat.{_-_, min};
 ghost use Rattle.octets.specs.Outcome.{written, onAccepted};
 ghost use Rattle.views.specs.Reading.{readPart, readByte, readWord, partAt, byteAt, wordAt};
-ghost use Rattle.views.specs.View.{memoryAnswer};
+ghost use Rattle.views.specs.View.{noBytes, memoryIn, memoryAnswer};
 ghost use Rattle.views.specs.Joining.{memoryFrom, memoryJoin};
 use crate::ReadPart;
 use crate::VIEWS_END;
@@ -63,6 +63,25 @@ fn joined_memory(base: u16, answer: Written) -> MemoryAnswer
 }
 
 impl MemoryView {
+    pub fn default() -> Self
+        ensures { λ r. ⌜ r ≡ noBytes ⌝ }
+    {
+        let data = Place { start: 0, len: 0 };
+        MemoryView { base: 0, data }
+    }
+
+    // The bytes of a 0x05 packet.
+    pub fn from_packet(packet: &[u8]) -> MemoryAnswer
+        ensures { λ r. ⌜ memoryAnswer r ≡ memoryIn (now (packet .entry)) ⌝ }
+    {
+        if packet.len() < 3 {
+            return MemoryAnswer::Refused(refusal::ENDS);
+        }
+        let base = number::big16(packet, 1);
+        let data = octets::rest_of(packet, 3);
+        MemoryAnswer::Is(MemoryView { base, data })
+    }
+
     // The place of len bytes from addr on, in the caller's bytes.
     pub fn read_at(self, bytes: &[u8], addr: u16, len: u8) -> ReadPart
         ensures { λ r. ⌜ readPart r ≡ partAt self (now (bytes .entry)) addr len ⌝ }

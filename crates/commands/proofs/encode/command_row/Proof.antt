@@ -61,7 +61,7 @@ returns-19 : tie.Need-returns-19
 returns-19 c = rw (c .before .before .command17 .given .1) (c .byte-row6 .ensures)
 
 returns-20 : tie.Need-returns-20
-returns-20 c = rw (c .before .before .before .command18 .given .1, ← c .before .mux-byte .ensures) (c .mux-row .ensures)
+returns-20 c = rw (c .before .before .command18 .given .1) (c .mux-row .ensures)
 
 returns-21 : tie.Need-returns-21
 returns-21 c = rw (c .before .before .command19 .given .1) (c .payload-row3 .ensures)
@@ -112,7 +112,6 @@ command-row-spec =
     (λ c. search needs)
     (λ c κs. search needs)
     (λ c. search needs)
-    (λ c κs. search needs)
     (λ c κs. search needs)
     (λ c. search needs)
     (λ c κs. search needs)
