@@ -140,10 +140,15 @@ def wrong_count(crate):
 
 
 def changed(text, function, old, new):
-    """The text with the change made in the function, or None where it cannot be made."""
-    start = re.search(r"(?m)^([ \t]*)(pub )?(extern \"C\" )?fn " + function + r"\b", text)
-    if start is None:
+    """The text with the change made in the function, or None where function or old text is not there, or not once. A
+    function of a type may be named with it, `Type::function`, where two types of the file have one of that name."""
+    owner, _, name = function.rpartition("::")
+    first = re.search(r"(?m)^impl " + owner + r" \{$", text).start() if owner else 0
+    last = text.index("\n}\n", first) if owner else len(text)
+    starts = [m for m in re.finditer(r"(?m)^([ \t]*)(pub )?(extern \"C\" )?fn " + name + r"\b", text) if first <= m.start() < last]
+    if len(starts) != 1:
         return None
+    start = starts[0]
     end = re.compile(r"(?m)^" + start.group(1) + r"}$").search(text, start.end())
     body = text[start.start():end.end()]
     if body.count(old) != 1:

@@ -31,7 +31,7 @@ use Rattle.commands.proofs.dialect.Dialect.invert.Reads as invert
 use Rattle.commands.specs.declared.dialect.AddrEncoding.{AddrEncoding}
 use Rattle.commands.specs.declared.dialect.FloatEncoding.{FloatEncoding}
 use Rattle.commands.proofs.read_floats_max.Reads as read-floats-max
-use Rattle.commands.proofs.write_int.all.Reads as write-ints
+use Rattle.commands.proofs.write_ints.Reads as write-ints
 use Rattle.commands.proofs.dialect.AddrEncoding.default.Reads as addr-encoding
 use Rattle.commands.proofs.dialect.FloatEncoding.default.Reads as float-encoding
 

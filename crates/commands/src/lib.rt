@@ -87,13 +87,17 @@ pub mod write_int {
     pub const ENABLED: u16 = 2;
 
     pub const BYPASSED: u16 = 3;
+}
 
-    // All three, in this order.
-    pub fn all() -> [u16; 3]
-        ensures { λ r. ⌜ r ≡ writeInts ⌝ }
-    {
-        [DISABLED, ENABLED, BYPASSED]
-    }
+// All three, in this order.
+pub fn write_ints() -> [u16; 3]
+    ensures { λ r. ⌜ r ≡ writeInts ⌝ }
+{
+    [
+        write_int::DISABLED,
+        write_int::ENABLED,
+        write_int::BYPASSED,
+    ]
 }
 
 impl Commands {

@@ -25,7 +25,7 @@ impl DeviceKind {
     pub fn default() -> Self
         ensures { λ r. ⌜ r ≡ Generic ⌝ }
     {
-        Generic
+        DeviceKind::Generic
     }
 }
 
