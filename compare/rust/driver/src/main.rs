@@ -37,4 +37,5 @@ fn main() {
         }
         _ => panic!("driver parts | generate PART SEED | answer | check REQUESTS RUST PORT"),
     }
+    out.flush().unwrap();
 }
