@@ -5,7 +5,7 @@ use std::{
     io::{BufRead, BufReader, Write},
 };
 
-use crate::answer::OUTSIDE;
+use crate::{answer::OUTSIDE, intended};
 
 /// How many differences are shown.
 const SHOWN: usize = 20;
@@ -29,20 +29,37 @@ fn is_refusal(found: &str, number: &str) -> bool {
         && words.all(|output| output == "-" || output.bytes().all(|digit| digit == b'E'))
 }
 
-/// How often the Rust had no answer, a count for each verb and refusal.
+/// How often the port's answer is not the Rust's, by what it is then.
 #[derive(Default)]
 struct Met(BTreeMap<String, usize>);
 
 impl Met {
-    /// Where the Rust has an answer the port's is the same; where it has none the port refuses.
-    fn agree(&mut self, request: &str, expected: &str, found: &str) -> bool {
-        let Some(number) = expected.strip_prefix(OUTSIDE) else {
-            return expected == found;
-        };
-        let number = number.trim();
+    /// Where the Rust has an answer the port's is the same but for the intended difference; where it has
+    /// none the port refuses.
+    fn agree(&mut self, request: &str, rust: &str, found: &str) -> bool {
         let verb = request.split(' ').next().unwrap();
-        *self.0.entry(format!("{verb}: refused {number}")).or_default() += 1;
-        is_refusal(found, number)
+        if let Some(number) = rust.strip_prefix(OUTSIDE) {
+            let number = number.trim();
+            self.count(format!("outside the domain: {verb}: refused {number}"));
+            return is_refusal(found, number);
+        }
+        let expected = intended::expected(request, rust);
+        if expected != rust {
+            self.count(format!("one NaN, as intended: {verb}"));
+        }
+        expected == found
+    }
+
+    fn count(&mut self, what: String) {
+        *self.0.entry(what).or_default() += 1;
+    }
+}
+
+/// The Rust's answers with the intended difference.
+pub fn expect(requests: &str, rust: &str, out: &mut impl Write) {
+    let [mut requests, mut rust] = [requests, rust].map(opened);
+    while let (Some(request), Some(rust)) = (next(&mut requests), next(&mut rust)) {
+        writeln!(out, "{}", intended::expected(&request, &rust)).unwrap();
     }
 }
 
@@ -71,8 +88,8 @@ pub fn same(requests: &str, rust: &str, port: &str, out: &mut impl Write) -> boo
     if more {
         writeln!(out, "more answers than requests").unwrap();
     }
-    for (refusal, count) in met.0 {
-        writeln!(out, "outside the domain: {refusal}, {count} times").unwrap();
+    for (what, count) in met.0 {
+        writeln!(out, "{what}, {count} times").unwrap();
     }
     writeln!(out, "{compared} requests, {differences} differences").unwrap();
     differences == 0 && !more && compared > 0
