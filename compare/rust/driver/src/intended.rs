@@ -41,10 +41,10 @@ pub fn expected(request: &str, rust: &str) -> String {
 
 /// The same of an answer that shows what was written; a frame has another checksum then.
 fn in_output(rust: &str, nans: &[u32], is_frame: bool) -> String {
-    let Some((Ok(len), output)) = rust.split_once(' ').map(|(len, rest)| (len.parse::<usize>(), rest)) else {
-        return rust.to_string();
+    let (len, mut out) = match rust.split_once(' ').map(|(len, output)| (len.parse::<usize>(), output)) {
+        Some((Ok(len), output)) => (len, bytes(output)),
+        _ => return rust.to_string(),
     };
-    let mut out = bytes(output);
     for at in 3..len {
         let four = &mut out[at - 3..=at];
         if nans.iter().any(|nan| *four == nan.to_le_bytes()) {

@@ -26,7 +26,7 @@ const SHOWN: usize = 1024;
 
 /// What a save takes.
 fn room(sizes: &Sizes) -> usize {
-    18 + sizes.eeprom + 8 * sizes.eeprom.div_ceil(32) + 13 * sizes.settings
+    18 + sizes.eeprom + 8 * ((sizes.eeprom + 31) / 32) + 13 * sizes.settings
 }
 
 pub fn requests(random: &mut Random, line: Line) {
