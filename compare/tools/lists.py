@@ -140,10 +140,11 @@ def wrong_count(crate):
 
 
 def changed(text, function, old, new):
-    """The text with the change made in the function, or None where it cannot be made."""
-    start = re.search(r"(?m)^([ \t]*)(pub )?(extern \"C\" )?fn " + function + r"\b", text)
-    if start is None:
+    """The text with the change made in the function, or None where function or old text is not there, or not once."""
+    starts = list(re.finditer(r"(?m)^([ \t]*)(pub )?(extern \"C\" )?fn " + function + r"\b", text))
+    if len(starts) != 1:
         return None
+    start = starts[0]
     end = re.compile(r"(?m)^" + start.group(1) + r"}$").search(text, start.end())
     body = text[start.start():end.end()]
     if body.count(old) != 1:
