@@ -2,10 +2,12 @@
 //!
 //! `driver parts` names the parts of the comparison; `driver generate PART SEED` writes a part's
 //! requests; `driver answer` answers requests, a line each, as the port's program `bench` does;
-//! `driver check REQUESTS RUST PORT` compares the two files of answers.
+//! `driver expect REQUESTS RUST` makes of the Rust's answers what the port is to answer, and `driver
+//! check REQUESTS RUST PORT` compares that with the file of the port's.
 mod answer;
 mod check;
 mod generate;
+mod intended;
 
 use std::io::{self, BufRead, BufWriter, Write};
 
@@ -29,12 +31,14 @@ fn main() {
                 writeln!(out, "{}", rust.answer(&line.unwrap())).unwrap();
             }
         }
+        ["expect", requests, rust] => check::expect(requests, rust, &mut out),
         ["check", requests, rust, port] => {
             if !check::same(requests, rust, port, &mut out) {
                 out.flush().unwrap();
                 std::process::exit(1);
             }
         }
-        _ => panic!("driver parts | generate PART SEED | answer | check REQUESTS RUST PORT"),
+        _ => panic!("driver parts | generate PART SEED | answer | expect REQUESTS RUST | check REQUESTS RUST PORT"),
     }
+    out.flush().unwrap();
 }

@@ -4,7 +4,7 @@ use std::panic::{catch_unwind, AssertUnwindSafe};
 use bytes::Bytes;
 use minidsp::{device::m2x4hd, utils::mock_device::MockDevice};
 use minidsp_protocol::{
-    commands::{Commands, ProtocolError, Responses},
+    commands::{Commands, ProtocolError, Responses, Value},
     device::DeviceKind,
     packet::{self, ParseError},
 };
@@ -17,6 +17,7 @@ use super::{
     words::{byte, bytes, half, hex, hex32, number, refused, untouched, unwritten, word32, written, LONGEST},
     OUTSIDE,
 };
+use crate::intended::{NAN, STORED};
 
 /// The most bytes or words that a memory of a device has; the bench has one more of each.
 const MOST: usize = 65536;
@@ -166,6 +167,20 @@ impl Processor {
         answer
     }
 
+    /// Executes a caller's record. A NaN that it leaves in the settings is the port's one NaN from then
+    /// on, and the answer says so.
+    fn executed(&mut self, command: &Commands, finish: impl FnOnce(Responses) -> String) -> String {
+        let answer = self.settled(|mock| mock.execute(command), finish);
+        if let (Commands::Write { addr, value: Value::Float(x) }, true) = (command, is_accepted(&answer)) {
+            let word = &mut self.mock.settings[addr.val as usize];
+            if x.is_nan() && *word == x.to_bits() && *word != NAN {
+                *word = NAN;
+                return format!("{STORED}{answer}");
+            }
+        }
+        answer
+    }
+
     /// The answer as a record, with its payload. 14, then 7.
     fn execute(&mut self, args: &[&str]) -> String {
         let payload = bytes(args[0]);
@@ -173,7 +188,7 @@ impl Processor {
             return refused(14);
         }
         match directly(&args[1..], &payload) {
-            Some(command) => self.settled(|mock| mock.execute(&command), |r| record(&r)),
+            Some(command) => self.executed(&command, |response| record(&response)),
             None => refused(7),
         }
     }
@@ -185,10 +200,7 @@ impl Processor {
             return unwritten(14, room);
         }
         match directly(&args[2..], &payload) {
-            Some(command) => self.settled(
-                |mock| mock.execute(&command),
-                |response| put(&response, whole, room),
-            ),
+            Some(command) => self.executed(&command, |response| put(&response, whole, room)),
             None => unwritten(7, room),
         }
     }

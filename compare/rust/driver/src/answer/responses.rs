@@ -99,7 +99,7 @@ fn values_at(args: &[&str]) -> String {
     let mut lent = Lent { bytes: &bytes, outside: false };
     let all = values(&mut args[1..].iter(), &mut lent);
     if lent.outside && number(args[3]) > 0 {
-        return format!("{} {}", number(args[3]).div_ceil(4), refused(7));
+        return format!("{} {}", (number(args[3]) + 3) / 4, refused(7));
     }
     format!("{}{}", all.len(), values_words(&all, &bytes, start_of(&args[1..])))
 }

@@ -54,8 +54,9 @@ fn read(args: &[&str], part: impl Fn(&MemoryView, usize) -> Option<String>) -> S
 
 /// Document 01's order is 7, then 15, where the Rust overflows, then 11, 6.
 fn join_memory(args: &[&str], room: usize) -> String {
-    let (Some(mut view), Some(other)) = (memory(args), memory(&args[4..])) else {
-        return unwritten(7, room);
+    let (mut view, other) = match (memory(args), memory(&args[4..])) {
+        (Some(view), Some(other)) => (view, other),
+        _ => return unwritten(7, room),
     };
     if view.extend_with(other).is_err() {
         return unwritten(11, room);
@@ -65,8 +66,9 @@ fn join_memory(args: &[&str], room: usize) -> String {
 }
 
 fn join_floats(args: &[&str], room: usize) -> String {
-    let (Some(mut view), Some(other)) = (floats(args), floats(&args[4..])) else {
-        return unwritten(7, room);
+    let (mut view, other) = match (floats(args), floats(&args[4..])) {
+        (Some(view), Some(other)) => (view, other),
+        _ => return unwritten(7, room),
     };
     if view.extend_with(other).is_err() {
         return unwritten(11, room);

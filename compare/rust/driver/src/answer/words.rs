@@ -60,14 +60,8 @@ pub fn bit(word: &str) -> bool {
     byte(word) == 1
 }
 
-/// The port has one NaN, without a payload: docs/DIFFERENCES.md.
 pub fn float(word: &str) -> f32 {
-    let x = f32::from_bits(hex32(word));
-    if x.is_nan() {
-        f32::from_bits(0x7FC0_0000)
-    } else {
-        x
-    }
+    f32::from_bits(hex32(word))
 }
 
 pub fn hex(bytes: &[u8]) -> String {

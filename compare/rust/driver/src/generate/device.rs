@@ -1,5 +1,9 @@
 //! Devices, each with a run of frames and calls, and both memories compared at its end.
-use super::{commands, packet::framed, records, Random};
+use super::{
+    commands,
+    packet::{framed, padded},
+    records, Random,
+};
 use crate::answer::words::hex;
 
 /// Sizes at and around each address that a command names, and the most that a device has.
@@ -36,13 +40,37 @@ pub fn requests(random: &mut Random, line: Line) {
         for _ in 0..20 + random.below(20) {
             run(&sizes, random, line);
         }
-        for address in [0, 0xFFA0, 0xFFC0, 0xFFE0, 0xFFF0] {
-            line(format!("peek {address} 32"));
-            line(format!("peek_words {} 8", address / 256));
-        }
-        line("tally".to_string());
-        line("digest".to_string());
+        looked_at(line);
     }
+    for _ in 0..20 {
+        in_reports(random, line);
+    }
+}
+
+fn looked_at(line: Line) {
+    for address in [0, 0xFFA0, 0xFFC0, 0xFFE0, 0xFFF0] {
+        line(format!("peek {address} 32"));
+        line(format!("peek_words {} 8", address / 256));
+    }
+    line("tally".to_string());
+    line("digest".to_string());
+}
+
+/// Frames in 64 bytes, good and damaged, as the wire has them.
+fn in_reports(random: &mut Random, line: Line) {
+    let sizes = Sizes { eeprom: random.pick(EEPROMS), settings: random.pick(SETTINGS) };
+    line(format!("lend {} {}", sizes.eeprom, sizes.settings));
+    make(false, &sizes, random, line);
+    line("zero".to_string());
+    for _ in 0..30 {
+        let mut frame = framed(&packet(&sizes, random));
+        if random.below(4) == 0 {
+            let at = random.below(frame.len());
+            frame[at] ^= 1 << random.below(8);
+        }
+        send(&padded(&frame, random.pick(&[0, 0, 0xFF])), random, line);
+    }
+    looked_at(line);
 }
 
 /// Every call is refused where a memory is too large.

@@ -15,6 +15,13 @@ pub fn framed(packet: &[u8]) -> Vec<u8> {
     frame
 }
 
+/// A frame in as many bytes as the wire has for it, filled up with others.
+pub fn padded(frame: &[u8], fill: u8) -> Vec<u8> {
+    let mut padded = frame.to_vec();
+    padded.resize(padded.len().max(64), fill);
+    padded
+}
+
 fn receive(bytes: &[u8], line: &mut dyn FnMut(String)) {
     line(format!("plain {}", hex(bytes)));
     line(format!("strict {}", hex(bytes)));
@@ -55,9 +62,7 @@ fn damaged(frame: &[u8], random: &mut Random, line: &mut dyn FnMut(String)) {
     let mut longer = frame.to_vec();
     longer.push(random.next() as u8);
     receive(&longer, line);
-    let mut padded = frame.to_vec();
-    padded.resize(padded.len().max(64), 0);
-    receive(&padded, line);
+    receive(&padded(frame, 0), line);
     for _ in 0..6 {
         let mut changed = frame.to_vec();
         let at = random.below(changed.len());

@@ -2,7 +2,7 @@
 //! on another of the same sizes, and on one of other sizes; then streams of writes in any order.
 use super::{
     device::{make, run, Line, Sizes},
-    packet::framed,
+    packet::{framed, padded},
     Random,
 };
 use crate::answer::words::hex;
@@ -26,7 +26,7 @@ const SHOWN: usize = 1024;
 
 /// What a save takes.
 fn room(sizes: &Sizes) -> usize {
-    18 + sizes.eeprom + 8 * sizes.eeprom.div_ceil(32) + 13 * sizes.settings
+    18 + sizes.eeprom + 8 * ((sizes.eeprom + 31) / 32) + 13 * sizes.settings
 }
 
 pub fn requests(random: &mut Random, line: Line) {
@@ -39,6 +39,9 @@ pub fn requests(random: &mut Random, line: Line) {
         }
     }
     too_large(line);
+    for &(eeprom, settings) in SIZES {
+        other_words(&Sizes { eeprom, settings }, random, line);
+    }
 }
 
 /// A device that was used, and its save: every byte of it where it is whole.
@@ -77,6 +80,22 @@ fn put_back(sizes: &Sizes, random: &mut Random, line: Line) {
     restored(line);
 }
 
+/// A save put back on devices of more and of fewer words; and one with a frame in 64 bytes.
+fn other_words(sizes: &Sizes, random: &mut Random, line: Line) {
+    used(sizes, random, line);
+    line("keep 1048576".to_string());
+    for settings in [sizes.settings + 1, sizes.settings.saturating_sub(1), sizes.settings / 2, 65_536] {
+        used(&Sizes { eeprom: sizes.eeprom, settings }, random, line);
+        restored(line);
+    }
+    line(format!("lend {} {}", sizes.eeprom, sizes.settings));
+    restored(line);
+    for _ in 0..4 {
+        let frames = [framed(&write(sizes, random)), padded(&framed(&write(sizes, random)), 0)];
+        replayed(&stream(sizes, &frames), line);
+    }
+}
+
 fn restored(line: Line) {
     line("digest".to_string());
     line("restore".to_string());
@@ -97,7 +116,8 @@ fn streams(sizes: &Sizes, random: &mut Random, line: Line) {
     line(format!("lend {} {}", sizes.eeprom, sizes.settings));
     make(false, sizes, random, line);
     for _ in 0..40 {
-        let mut stream = stream(sizes, random);
+        let frames: Vec<_> = (0..random.below(4)).map(|_| framed(&write(sizes, random))).collect();
+        let mut stream = stream(sizes, &frames);
         match random.below(8) {
             0 => stream.truncate(random.below(stream.len())),
             1 => stream.push(random.next() as u8),
@@ -107,20 +127,23 @@ fn streams(sizes: &Sizes, random: &mut Random, line: Line) {
             }
             _ => {}
         }
-        line(format!("replay {}", hex(&stream)));
-        line("digest".to_string());
-        line(format!("judge {}", hex(&stream)));
+        replayed(&stream, line);
     }
 }
 
-fn stream(sizes: &Sizes, random: &mut Random) -> Vec<u8> {
+fn replayed(stream: &[u8], line: Line) {
+    line(format!("replay {}", hex(stream)));
+    line("digest".to_string());
+    line(format!("judge {}", hex(stream)));
+}
+
+fn stream(sizes: &Sizes, frames: &[Vec<u8>]) -> Vec<u8> {
     let size = |n: usize| (n as u32).to_be_bytes();
-    let count = random.below(4);
     let mut stream = field(0x01, &[size(sizes.eeprom), size(sizes.settings)].concat());
-    for _ in 0..count {
-        stream.extend(field(0x10, &framed(&write(sizes, random))));
+    for frame in frames {
+        stream.extend(field(0x10, frame));
     }
-    stream.extend(field(0x7F, &size(count)));
+    stream.extend(field(0x7F, &size(frames.len())));
     stream
 }
 
