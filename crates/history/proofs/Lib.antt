@@ -10,3 +10,4 @@ pub mod Values
 pub mod Kept
 pub mod Saved
 pub mod Restores
+pub mod Tallied
