@@ -26,7 +26,8 @@ use Rattle.commands.specs.Decode.{commandOf, commandBy}
 use Rattle.commands.specs.declared.Commands.{Commands}
 use Rattle.commands.specs.declared.Commands.the-variants.{ReadHardwareId, ReadFloats, WriteMemory, ReadMemory, SetConfig, SetSource, SetMute, SetVolume, WriteBiquad, WriteBiquadBypass, Read, Write, FirLoadStart, FirLoadData, FirLoadEnd, DiracBypass, BulkLoad, BulkLoadFilterData, Unk07, SwitchMux, Unknown}
 use Rattle.device.specs.Names.{names}
-use Rattle.history.specs.History.{OfTypes, Call, bare, new, receive, execute, execute-into, write-u8, write-u16, write-u32, set-serial, set-timestamp, replay, save, ifRead, AllOctets, frameNames, framesNames, framesIn, named}
+use Rattle.history.specs.Types.{OfTypes}
+use Rattle.history.specs.History.{Call, bare, new, receive, execute, execute-into, write-u8, write-u16, write-u32, set-serial, set-timestamp, replay, save, ifRead, AllOctets, frameNames, framesNames, framesIn, named}
 use Rattle.history.proofs.Codec.{part-octets}
 use Rattle.history.proofs.Octets.{big-octets, little-octets}
 use Rattle.history.proofs.Replays.{frames-octets}

@@ -12,7 +12,6 @@ use Rattle.octets.specs.declared.Place.{Place}
 use Rattle.packet.specs.Receipt.{plainOf}
 use Rattle.commands.specs.Decode.{commandOf}
 use Rattle.commands.specs.declared.Commands.{Commands}
-use Rattle.commands.specs.declared.Commands.the-variants.{ReadHardwareId, ReadFloats, WriteMemory, ReadMemory, SetConfig, SetSource, SetMute, SetVolume, WriteBiquad, WriteBiquadBypass, Read, Write, FirLoadStart, FirLoadData, FirLoadEnd, DiracBypass, BulkLoad, BulkLoadFilterData, Unk07, SwitchMux, Unknown}
 use Rattle.facts.specs.Eeprom.{atSerial, atTimestamp, atTimestamp2x4}
 use Rattle.processor.specs.Memory.{Memory, memory, Store, toEeprom}
 use Rattle.device.specs.Names.{names}
@@ -25,6 +24,7 @@ use Rattle.saves.specs.Save.{savedInto}
 use Rattle.saves.specs.Stream.{streamOf}
 use Rattle.saves.specs.Replay.{replayOf}
 use Rattle.saves.specs.Writes.{writesFor}
+use Rattle.history.specs.Types.{OfTypes}
 
 -- ---- the places in the two memories
 pub data Location : Type 0 where
@@ -41,33 +41,9 @@ puts w (inEeprom i) = putsByte w i
 puts w (inSettings i) = putsWord w i
 
 -- ---- calls
--- the numbers that a command's record puts are of their types: these two are a u8
-abbrev pub OfTypes : Commands → Type 0
-OfTypes (SetConfig config reset) = config < 256
-OfTypes (SetSource n) = n < 256
-OfTypes ReadHardwareId = Unit
-OfTypes (ReadMemory a size) = Unit
-OfTypes (WriteMemory a place) = Unit
-OfTypes (ReadFloats a len) = Unit
-OfTypes (Write a v) = Unit
-OfTypes (SetMute value) = Unit
-OfTypes (SetVolume gain) = Unit
-OfTypes (FirLoadStart index) = Unit
-OfTypes (Unk07 payload) = Unit
-OfTypes (Read a len) = Unit
-OfTypes (WriteBiquad a) = Unit
-OfTypes (WriteBiquadBypass a value) = Unit
-OfTypes (FirLoadData index start count) = Unit
-OfTypes FirLoadEnd = Unit
-OfTypes (DiracBypass value) = Unit
-OfTypes (BulkLoad payload) = Unit
-OfTypes (BulkLoadFilterData payload) = Unit
-OfTypes (SwitchMux a max arg slot) = Unit
-OfTypes (Unknown id payload) = Unit
-
--- One for each public function that is lent a processor's memories, with all else that it is given, the device too where it takes
--- one: what is read as bytes is bytes, a number that is put is of its type, and the output may be any. A frame that is counted is a
--- frame that is received.
+-- One for each entry point that is lent a processor's memories, with all else that it is given, the device too where it takes one:
+-- what is read as bytes is bytes, a number that is put is of its type, and the output may be any. A frame that is counted is a frame
+-- that is received.
 pub data Call : Type 0 where
   bare : Device → Call
   new : (made : Device) → made .«dsp_version» < 256 → List ℕ → Call
