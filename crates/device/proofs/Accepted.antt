@@ -1,6 +1,6 @@
 -- An accepted call leaves the memories with exactly the writes stored that its command names, all of which lie within.
 use Prim.Native.Nat.{ℕ}
-use mathlib.Core.Path.{_≡_, refl, sym}
+use mathlib.Core.Path.{_≡_, refl}
 use mathlib.Core.Bool.{Bool, true, false}
 use mathlib.Core.List.{List}
 use lib.ListN.{length}
@@ -13,7 +13,7 @@ use Rattle.packet.specs.Receipt.{plainOf}
 use Rattle.commands.specs.Decode.{commandOf}
 use Rattle.commands.specs.declared.Commands.{Commands}
 use Rattle.responses.specs.declared.Responses.{Responses}
-use Rattle.processor.specs.Memory.{Memory, Store, store, oversized}
+use Rattle.processor.specs.Memory.{Memory, store, oversized}
 use Rattle.device.specs.Effect.{Effect}
 use Rattle.device.specs.Names.{names}
 use Rattle.device.specs.Data.{dataOf}

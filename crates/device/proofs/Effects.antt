@@ -1,6 +1,6 @@
 -- What a command is accepted to do is what it names, and lies within the memories.
-use Prim.Native.Nat.{ℕ, _+_, _≤_}
-use mathlib.Core.Path.{_≡_, refl, sym, subst}
+use Prim.Native.Nat.{ℕ, _+_}
+use mathlib.Core.Path.{_≡_, refl, subst}
 use mathlib.Core.Bool.{Bool, true, false}
 use mathlib.Core.List.{List, [], _∷_}
 use native.Mathlib.Omega.{arith}
@@ -20,7 +20,7 @@ use Rattle.commands.specs.declared.Commands.the-variants.{ReadHardwareId, ReadF
 use Rattle.responses.specs.declared.Responses.{Responses}
 use Rattle.responses.specs.declared.Responses.the-variants.{Ack}
 use Rattle.processor.specs.Memory.{Store, toEeprom, toSettings}
-use Rattle.device.specs.Effect.{Effect, effect, tellsOf, readMemoryDoes, readFloatsDoes, writeMemoryDoes, writeDoes, setByte, effectOf}
+use Rattle.device.specs.Effect.{Effect, effect, tellsOf, writeMemoryDoes, writeDoes, setByte, effectOf}
 use Rattle.device.specs.Names.{wordNamed, byteNamed, names}
 use Rattle.processor.specs.Puts.{AllWithin}
 use Rattle.processor.specs.declared.Device.{Device}

@@ -4,7 +4,7 @@ use mathlib.Core.List.{List, [], _∷_, _++_}
 use mathlib.Core.Logic.{_⊎_, inl, inr}
 use native.Mathlib.Omega.{arith}
 use lib.Dec.{lit<}
-use lib.ListN.{length, drop, replicate}
+use lib.ListN.{length, replicate}
 use Rattle.octets.specs.Number.{at, Octets}
 use Rattle.octets.specs.Place.{placeAt, partOf}
 use Rattle.octets.proofs.Choosing.{either-lt, lt-or-le}

@@ -1,6 +1,5 @@
 -- The bytes of the EEPROM stay bytes, and the words of the settings words, in every history.
-use Prim.Native.Nat.{ℕ}
-use mathlib.Core.Path.{_≡_, sym, subst}
+use mathlib.Core.Path.{sym, subst}
 use mathlib.Core.List.{List, [], _∷_}
 use lib.ListN.{length}
 use Rattle.octets.specs.Outcome.{Outcome, accepted, refused}

@@ -10,7 +10,7 @@ use Rattle.octets.specs.Outcome.{accepted}
 use Rattle.octets.specs.Over.{over}
 use Rattle.octets.proofs.Choosing.{above}
 use Rattle.processor.specs.Memory.{Memory, oversized}
-use Rattle.saves.specs.Save.{saveOf, room, savedInto}
+use Rattle.saves.specs.Save.{saveOf, savedInto}
 use Rattle.saves.specs.Writes.{Words}
 use Rattle.saves.proofs.Saved.{length-save, in-front}
 use Rattle.saves.proofs.Round.{restored}

@@ -1,11 +1,10 @@
 -- What a call names is bytes for the EEPROM and words for the settings: it was read from bytes, or is of its type.
-use Prim.Native.Nat.{ℕ, _+_, _<_, min}
+use Prim.Native.Nat.{ℕ, _<_, min}
 use mathlib.Core.Path.{_≡_, refl, subst}
 use mathlib.Core.Bool.{Bool, true, false}
 use mathlib.Core.List.{List, [], _∷_}
 use native.Mathlib.Omega.{arith}
 use lib.Dec.{lit<}
-use lib.ListN.{length}
 use lib.Ieee.{binary32, toBits}
 use Rattle.octets.specs.Outcome.{Outcome, accepted, refused, onAccepted, andThen}
 use Rattle.octets.specs.Choice.{ifEq}

@@ -43,7 +43,6 @@ use denote.Triple.Spec.{Meets, tripleOf}
 use denote.Triple.Table.{entered, cited}
 use denote.Triple.Walked.{says, Stays, stay-ref, walkOf, AllGo, goes-ref, Walks, ends-at, walked, walk-meets}
 use Rattle.octets.specs.Outcome.{written}
-use Rattle.octets.specs.declared.Written.{Written}
 use Rattle.octets.proofs.Written as S
 use Rattle.octets.proofs.Written.Laws as S′
 use Rattle.processor.specs.Memory.{memory}
