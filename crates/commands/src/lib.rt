@@ -93,11 +93,7 @@ pub mod write_int {
 pub fn write_ints() -> [u16; 3]
     ensures { λ r. ⌜ r ≡ writeInts ⌝ }
 {
-    [
-        write_int::DISABLED,
-        write_int::ENABLED,
-        write_int::BYPASSED,
-    ]
+    [write_int::DISABLED, write_int::ENABLED, write_int::BYPASSED]
 }
 
 impl Commands {

@@ -1,5 +1,5 @@
 -- A frame that a replay takes means that write by the codec's and the device's definitions too: it is received plainly, its
--- packet reads as a command, and any device that executes it acknowledges it and puts that write.
+-- packet reads as a command, which names that write, and any device that executes it acknowledges it and puts it.
 use Prim.Native.Nat.{ℕ, _+_, _-_, _≤_, _<_}
 use mathlib.Core.Path.{_≡_, refl, sym, _∙_, subst}
 use mathlib.Core.Bool.{false}
@@ -32,7 +32,9 @@ use Rattle.commands.specs.declared.Commands.{Commands}
 use Rattle.commands.specs.declared.Commands.the-variants.{WriteMemory, Write}
 use Rattle.responses.specs.declared.Responses.the-variants.{Ack}
 use Rattle.processor.specs.Memory.{Store, toEeprom, toSettings}
+use Rattle.processor.specs.Puts.{Within}
 use Rattle.device.specs.Effect.{effect, effectOf}
+use Rattle.device.specs.Names.{names}
 use Rattle.processor.specs.declared.Device.{Device}
 use Rattle.streams.specs.Means.{packetMeans, frameMeans, memoryMeans, wordMeans}
 
@@ -44,20 +46,25 @@ strict-plain frame h =
     let sum = was-same _ _ _ _ (ended .1) in
     sym (other _ _ _ _ _ (begun .0) (above _ _ _ _ _ (omega arith) (sym (sum .1))))
 
--- what a packet's command is, and that it puts this write
+-- what a packet's command is, that it names this write, within the memories, and that it puts it
 pub record Puts (e s : ℕ) (p : List ℕ) (w : Store) : Type 0 where
   pub command : Commands
   pub reads : commandOf p ≡ accepted command
+  pub names-it : names p command ≡ w ∷ []
+  pub inside : Within e s w
   pub does : (d : Device) → effectOf d p e s command ≡ accepted (effect Ack (w ∷ []))
 
 module _ (e s : ℕ) (p : List ℕ) (short : length p ≤ 254) where
   memory-puts : at p 0 ≡ 0x04 → 3 ≤ length p → bigAt 2 p 1 + (length p - 3) ≤ e → Puts e s p (toEeprom (bigAt 2 p 1) (drop 3 p))
   unfolding commandOf commandBy partOf
   memory-puts k long inside =
+      let rest-is : take (length p - 3) (drop 3 p) ≡ drop 3 p = take-all (length p - 3) (drop 3 p) (omega (arith, length-drop 3 p)) in
       record {
         command = WriteMemory (bigAt 2 p 1) (rest 3 p);
         reads = sym (above _ _ _ _ _ short (above _ _ _ _ _ (omega arith) (other _ _ _ _ _ (λ h. omega arith) (same _ _ _ _ _ k (above _ _ _ _ _ long refl)))));
-        does = λ d. rw (← is-inside (rest 3 p) (length p) (omega arith), take-all (length p - 3) (drop 3 p) (omega (arith, length-drop 3 p))) (sym (above _ _ _ _ _ inside refl));
+        names-it = rw rest-is;
+        inside = omega (arith, length-drop 3 p);
+        does = λ d. rw (← is-inside (rest 3 p) (length p) (omega arith), rest-is) (sym (above _ _ _ _ _ inside refl));
       }
 
   -- the value of a Write of four bytes, whichever kind it reads as
@@ -86,10 +93,13 @@ module _ (e s : ℕ) (p : List ℕ) (short : length p ≤ 254) where
 
     word-puts : at p 0 ≡ 0x13 → addrAt 3 p 1 .val < s → Puts e s p (toSettings (addrAt 3 p 1 .val) (littleAt 4 p 4))
     word-puts k inside =
+        let four : length (drop 4 p) ≡ 4 = length-drop 4 p ∙ omega arith in
         record {
           command = Write (addrAt 3 p 1) v;
           reads = reads-write k;
-          does = λ d. rw (placed, bytes-are, value-is) (sym (same _ _ _ _ _ (length-drop 4 p ∙ omega arith) (below _ _ _ _ _ inside refl)));
+          names-it = rw (bytes-are, value-is) (sym (same _ _ _ _ _ four refl));
+          inside = inside;
+          does = λ d. rw (placed, bytes-are, value-is) (sym (same _ _ _ _ _ four (below _ _ _ _ _ inside refl)));
         }
 
   module _ (octets : Octets p) (w : Store) where

@@ -10,7 +10,6 @@ use Rattle.octets.specs.Outcome.{Outcome, accepted, refused, onAccepted}
 use Rattle.facts.specs.Eeprom.{atSerial}
 use Rattle.processor.specs.Memory.{Memory, Store, toEeprom, toSettings, storeOne, store}
 use Rattle.processor.specs.Puts.{orBefore, Within, AllWithin}
-use Rattle.processor.specs.declared.Device.{Device}
 use Rattle.processor.proofs.Stores.{length-put}
 use Rattle.processor.proofs.Puts.{byte-after, word-after}
 use Rattle.saves.specs.Save.{savedInto}
@@ -21,19 +20,19 @@ use Rattle.history.proofs.Makers.{bare-right, new-right}
 use Rattle.history.proofs.Replays.{replay-right}
 
 -- ---- one call
-pub right : (d : Device) (c : Call) (m : Memory) → Right m (answer d c m) (named d (length (m .eeprom)) (length (m .settings)) c) (step d c m)
-right d (bare made) m = bare-right made m
-right d (new made meters) m = new-right made meters m
-right d (receive frame octets out) m = received-right d m out frame
-right d (execute c p octets out) m = executed-right d m out c p
-right d (execute-into c p octets out) m = executed-into-right d m out c p
-right d (write-u8 a value) m = written-right m a (value ∷ [])
-right d (write-u16 a value) m = written-right m a (bigBytes 2 value)
-right d (write-u32 a value) m = written-right m a (bigBytes 4 value)
-right d (set-serial value) m = written-right m atSerial (bigBytes 4 (value - 900000))
-right d (set-timestamp value) m = stamped-right m value
-right d (replay l octets) m = replay-right d m l octets
-right d (save out) m = go (savedInto m out .0)
+pub right : (c : Call) (m : Memory) → Right m (answer c m) (named (length (m .eeprom)) (length (m .settings)) c) (step c m)
+right (bare made) m = bare-right made m
+right (new made typed meters) m = new-right made meters m
+right (receive d frame octets out) m = received-right d m out frame
+right (execute d c typed p octets out) m = executed-right d m out c p
+right (execute-into d c typed p octets out) m = executed-into-right d m out c p
+right (write-u8 a value typed) m = written-right m a (value ∷ [])
+right (write-u16 a value typed) m = written-right m a (bigBytes 2 value)
+right (write-u32 a value typed) m = written-right m a (bigBytes 4 value)
+right (set-serial value typed) m = written-right m atSerial (bigBytes 4 (value - 900000))
+right (set-timestamp value typed) m = stamped-right m value
+right (replay l octets) m = replay-right m l octets
+right (save out) m = go (savedInto m out .0)
   where
     go : (o : Outcome ℕ) → Right m (onAccepted (λ n. tt) o) [] m
     go (accepted n) = (refl, tt)
@@ -63,18 +62,17 @@ store-at (w ∷ ws) m place h =
     store-at ws (storeOne w m) place (rw (kept .0, kept .1) (h .1)) ∙ rw (put-at w m place (h .0)) (or-later (lastStored ws place) (puts w place) (content m place))
 
 -- ---- histories
-module _ (d : Device) where
-  pub step-at : (c : Call) (m : Memory) (place : Location) → content (step d c m) place ≡ orBefore (lastStored (namedIfAccepted d c m) place) (content m place)
-  step-at c m place = let r = right d c m in rw (r .0) (store-at (namedIfAccepted d c m) m place (r .1))
+step-at : (c : Call) (m : Memory) (place : Location) → content (step c m) place ≡ orBefore (lastStored (namedIfAccepted c m) place) (content m place)
+step-at c m place = let r = right c m in rw (r .0) (store-at (namedIfAccepted c m) m place (r .1))
 
-  pub holds-last : (cs : List Call) (m : Memory) (place : Location) → content (history d cs m) place ≡ orBefore (last d cs m place) (content m place)
-  holds-last [] m place = refl
-  holds-last (c ∷ cs) m place =
-      holds-last cs (step d c m) place ∙ rw (step-at c m place) (or-later (last d cs (step d c m) place) (lastStored (namedIfAccepted d c m) place) (content m place))
+pub holds-last : (cs : List Call) (m : Memory) (place : Location) → content (history cs m) place ≡ orBefore (last cs m place) (content m place)
+holds-last [] m place = refl
+holds-last (c ∷ cs) m place =
+    holds-last cs (step c m) place ∙ rw (step-at c m place) (or-later (last cs (step c m) place) (lastStored (namedIfAccepted c m) place) (content m place))
 
-  step-sizes : (c : Call) (m : Memory) → SameSizes (step d c m) m
-  step-sizes c m = let r = right d c m in rw (r .0) (store-sizes (namedIfAccepted d c m) m)
+step-sizes : (c : Call) (m : Memory) → SameSizes (step c m) m
+step-sizes c m = rw (right c m .0) (store-sizes (namedIfAccepted c m) m)
 
-  pub lengths-kept : (cs : List Call) (m : Memory) → SameSizes (history d cs m) m
-  lengths-kept [] m = (refl, refl)
-  lengths-kept (c ∷ cs) m = let p = step-sizes c m in let q = lengths-kept cs (step d c m) in (q .0 ∙ p .0, q .1 ∙ p .1)
+pub lengths-kept : (cs : List Call) (m : Memory) → SameSizes (history cs m) m
+lengths-kept [] m = (refl, refl)
+lengths-kept (c ∷ cs) m = let p = step-sizes c m in let q = lengths-kept cs (step c m) in (q .0 ∙ p .0, q .1 ∙ p .1)

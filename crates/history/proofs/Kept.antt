@@ -1,31 +1,30 @@
--- The words of the settings stay words, below 2^32, in every history.
-use Prim.Native.Nat.{ℕ}
+-- The bytes of the EEPROM stay bytes, and the words of the settings words, in every history.
+use mathlib.Core.Path.{sym, subst}
 use mathlib.Core.List.{List, [], _∷_}
 use lib.ListN.{length}
 use Rattle.octets.specs.Outcome.{Outcome, accepted, refused}
-use Rattle.octets.specs.Number.{at}
-use Rattle.processor.specs.Memory.{Memory}
-use Rattle.processor.specs.declared.Device.{Device}
+use Rattle.octets.specs.Number.{Octets}
+use Rattle.processor.specs.Memory.{Memory, Store, store}
 use Rattle.saves.specs.Writes.{Words}
-use Rattle.history.specs.History.{Call, inSettings, answer, step, named, ifAccepted, namedIfAccepted, history, lastStored}
-use Rattle.history.proofs.History.{step-at}
-use Rattle.history.proofs.Words.{AllWords, last-small, small-or}
-use Rattle.history.proofs.Values.{named-words}
+use Rattle.history.specs.History.{Call, answer, step, named, ifAccepted, namedIfAccepted, history}
+use Rattle.history.proofs.History.{right}
+use Rattle.history.proofs.Fits.{AllFit, stored-octets, stored-words}
+use Rattle.history.proofs.Values.{named-fit}
 
-module _ (d : Device) where
-  step-words : (c : Call) (m : Memory) → Words (m .settings) → Words (step d c m .settings)
-  step-words c m words i = rw (step-at d c m (inSettings i)) (small-or (lastStored (namedIfAccepted d c m) (inSettings i)) (at (m .settings) i) (last-small (namedIfAccepted d c m) i (go (answer d c m))) (words i))
-    where
-      e : ℕ
-      e = length (m .eeprom)
+accepted-fit : (c : Call) (m : Memory) → AllFit (namedIfAccepted c m)
+accepted-fit c m = go (answer c m)
+  where
+    go : (o : Outcome Unit) → AllFit (ifAccepted o (named (length (m .eeprom)) (length (m .settings)) c))
+    go (accepted u) = named-fit _ _ c
+    go (refused k) = tt
 
-      s : ℕ
-      s = length (m .settings)
+-- what such writes keep, a history keeps
+kept : (P : Memory → Type 0) → ((ws : List Store) (m : Memory) → AllFit ws → P m → P (store ws m)) → (cs : List Call) (m : Memory) → P m → P (history cs m)
+kept P stored [] m h = h
+kept P stored (c ∷ cs) m h = kept P stored cs (step c m) (subst P (sym (right c m .0)) (stored (namedIfAccepted c m) m (accepted-fit c m) h))
 
-      go : (o : Outcome Unit) → AllWords (ifAccepted o (named d e s c))
-      go (accepted u) = named-words d e s c
-      go (refused k) = tt
+pub octets-kept : (cs : List Call) (m : Memory) → Octets (m .eeprom) → Octets (history cs m .eeprom)
+octets-kept = kept (λ m. Octets (m .eeprom)) stored-octets
 
-  pub words-kept : (cs : List Call) (m : Memory) → Words (m .settings) → Words (history d cs m .settings)
-  words-kept [] m words = words
-  words-kept (c ∷ cs) m words = words-kept cs (step d c m) (step-words c m words)
+pub words-kept : (cs : List Call) (m : Memory) → Words (m .settings) → Words (history cs m .settings)
+words-kept = kept (λ m. Words (m .settings)) stored-words

@@ -5,10 +5,9 @@ pub mod Codec
 pub mod Replays
 pub mod History
 pub mod Turns
-pub mod Saved
-pub mod Words
+pub mod Fits
 pub mod Values
 pub mod Kept
+pub mod Saved
 pub mod Restores
-pub mod Transfers
-pub mod Determined
+pub mod Tallied

@@ -6,7 +6,7 @@ use mathlib.Core.List.{List, [], _∷_, _++_}
 use native.Mathlib.Omega.{arith}
 use lib.ListN.{length, drop, replicate, length-replicate, length-take, length-drop}
 use Rattle.octets.specs.Refusals.{outside, wrongSizes}
-use Rattle.octets.specs.Outcome.{Outcome, accepted, refused, onAccepted}
+use Rattle.octets.specs.Outcome.{Outcome, accepted, refused}
 use Rattle.octets.specs.Choice.{pick}
 use Rattle.octets.proofs.Choosing.{either-lt, either-eq}
 use Rattle.processor.specs.Memory.{Memory, memory, Store, store, oversized}
@@ -17,7 +17,7 @@ use Rattle.processor.proofs.Stores.{length-put, length-store}
 use Rattle.saves.specs.Save.{blocks}
 use Rattle.saves.specs.Writes.{each, blockStore, wordStore, writesFor}
 use Rattle.saves.proofs.Rising.{stored-whole}
-use Rattle.history.specs.History.{blank}
+use Rattle.history.specs.History.{onMade, blank}
 use Rattle.history.specs.Restores.{SameSizes}
 use Rattle.history.proofs.Steps.{Right}
 
@@ -52,11 +52,11 @@ module _ (made : Device) (m : Memory) where
   abbrev s : ℕ
   s = length (m .settings)
 
-  pub bare-right : let left = bareOf made m in Right m (onAccepted (λ x. tt) (left .0)) (writesFor (blank e s)) (left .1)
+  pub bare-right : let left = onMade (bareOf made m) in Right m (left .0) (writesFor (blank e s)) (left .1)
   bare-right = go (oversized m)
     where
       P : Outcome Device × Memory → Type 0
-      P left = Right m (onAccepted (λ x. tt) (left .0)) (writesFor (blank e s)) (left .1)
+      P left = Right m (onMade left .0) (writesFor (blank e s)) (left .1)
 
       go : (b : Bool) → P (pick b (refused wrongSizes, m) (accepted made, bareMemory m))
       go true = (refl, tt)
@@ -73,7 +73,7 @@ new-sizes dsp meters m = (
   meters-length meters (replicate (length (m .settings)) 0) ∙ length-replicate (length (m .settings)) 0,
 )
 
-pub new-right : (made : Device) (meters : List ℕ) (m : Memory) → let left = newOf made meters m in Right m (onAccepted (λ x. tt) (left .0)) (writesFor (newMemory (made .«dsp_version») meters (blank (length (m .eeprom)) (length (m .settings))))) (left .1)
+pub new-right : (made : Device) (meters : List ℕ) (m : Memory) → let left = onMade (newOf made meters m) in Right m (left .0) (writesFor (newMemory (made .«dsp_version») meters (blank (length (m .eeprom)) (length (m .settings))))) (left .1)
 new-right made meters m =
     either-eq P _ _ _ _ (λ h. either-lt P _ _ _ _ (λ g. (refl, tt)) (λ g. go (anyBeyond (length (m .settings)) meters))) (λ h. (refl, tt))
   where
@@ -84,7 +84,7 @@ new-right made meters m =
     empty = blank (length (m .eeprom)) (length (m .settings))
 
     P : Outcome Device × Memory → Type 0
-    P left = Right m (onAccepted (λ x. tt) (left .0)) (writesFor (newMemory dsp meters empty)) (left .1)
+    P left = Right m (onMade left .0) (writesFor (newMemory dsp meters empty)) (left .1)
 
     -- what is new depends on the sizes alone
     alike : newMemory dsp meters empty ≡ newMemory dsp meters m

@@ -10,8 +10,7 @@ use Rattle.octets.specs.Outcome.{accepted}
 use Rattle.octets.specs.Over.{over}
 use Rattle.octets.proofs.Choosing.{above}
 use Rattle.processor.specs.Memory.{Memory, oversized}
-use Rattle.processor.specs.declared.Device.{Device}
-use Rattle.saves.specs.Save.{saveOf, room, savedInto}
+use Rattle.saves.specs.Save.{saveOf, savedInto}
 use Rattle.saves.specs.Writes.{Words}
 use Rattle.saves.proofs.Saved.{length-save, in-front}
 use Rattle.saves.proofs.Round.{restored}
@@ -31,15 +30,15 @@ one-other m m′ fits words same out enough =
     let front : take (roomFor m) (over (saveOf m) out) ≡ saveOf m = rw (← length-save m) (in-front m out) in
     record { isWritten = rw wrote; isReplayed = rw (wrote, front) (restored m (fits .0) (fits .1) words m′ (same .0) (same .1)) }
 
-pub restores : (d d′ : Device) (cs cs′ : List Call) (m m′ : Memory) → Sized m → Words (m .settings) → SameSizes m′ m → (out : List ℕ) → roomFor m ≤ length out
-    → Restored (history d cs m) (history d′ cs′ m′) out
-restores d d′ cs cs′ m m′ fits words same out enough =
-    let one = lengths-kept d cs m in
-    let other = lengths-kept d′ cs′ m′ in
-    one-other (history d cs m) (history d′ cs′ m′) (rw (one .0, one .1) fits) (words-kept d cs m words)
+pub restores : (cs cs′ : List Call) (m m′ : Memory) → Sized m → Words (m .settings) → SameSizes m′ m → (out : List ℕ) → roomFor m ≤ length out
+    → Restored (history cs m) (history cs′ m′) out
+restores cs cs′ m m′ fits words same out enough =
+    let one = lengths-kept cs m in
+    let other = lengths-kept cs′ m′ in
+    one-other (history cs m) (history cs′ m′) (rw (one .0, one .1) fits) (words-kept cs m words)
     (other .0 ∙ same .0 ∙ sym (one .0), other .1 ∙ same .1 ∙ sym (one .1)) out (rw (one .0, one .1) enough)
 
 -- the same processor, after this save and any calls behind it
-pub restores-later : (d : Device) (cs later : List Call) (m : Memory) → Sized m → Words (m .settings) → (out : List ℕ) → roomFor m ≤ length out
-    → Restored (history d cs m) (history d (cs ++ (save out ∷ later)) m) out
-restores-later d cs later m fits words out = restores d d cs (cs ++ (save out ∷ later)) m m fits words (refl, refl) out
+pub restores-later : (cs later : List Call) (m : Memory) → Sized m → Words (m .settings) → (out : List ℕ) → roomFor m ≤ length out
+    → Restored (history cs m) (history (cs ++ (save out ∷ later)) m) out
+restores-later cs later m fits words out = restores cs (cs ++ (save out ∷ later)) m m fits words (refl, refl) out

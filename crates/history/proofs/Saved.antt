@@ -1,25 +1,29 @@
--- Every frame of a save means a write by demand 2's definition: received and read as any frame, it names one write, that of its
--- block or its word.
-use Prim.Native.Nat.{ℕ, zero, suc, _+_, _*_, _%_, _^_, _≤_, _<_}
-use mathlib.Core.Path.{_≡_}
+-- "Every frame in it means a write by demand 2's definition": received and read as any frame, each frame of a save names exactly
+-- one write, that of its block or its word, whatever calls led to the save.
+use Prim.Native.Nat.{ℕ, zero, suc, _+_, _*_, _%_, _^_, _≤_}
+use mathlib.Core.Path.{_≡_, ap, _∙_}
 use mathlib.Core.List.{List, [], _∷_, _++_}
 use native.Mathlib.Omega.{arith}
 use lib.Dec.{lit<}
 use lib.ListN.{length, take, drop}
+use lib.Seq.{drop-at}
 use Rattle.octets.specs.Number.{at, Octets, bigBytes, littleBytes}
 use Rattle.octets.specs.Place.{placeAt, partOf}
 use Rattle.packet.specs.Frame.{frameOf}
 use Rattle.processor.specs.Memory.{Memory}
-use Rattle.processor.specs.declared.Device.{Device}
-use Rattle.saves.specs.Save.{memoryPacket, wordPacket, blocks}
+use Rattle.saves.specs.Save.{memoryPacket, wordPacket, blocks, shapeField, fieldsFor, saveOf}
+use Rattle.streams.specs.Stream.{Stream, streamOf}
 use Rattle.saves.specs.Writes.{Words, each, framesFor, writesFor}
-use Rattle.saves.proofs.Saved.{memory-packet, length-memory-packet, word-packet, length-word-packet}
+use Rattle.saves.proofs.Saved.{memory-packet, length-memory-packet, word-packet, length-word-packet, length-shape}
+use Rattle.saves.proofs.Fields.{save-stream}
 use Rattle.saves.proofs.Writes.{saved-writes}
 use Rattle.history.proofs.Codec.{part-octets}
-use Rattle.history.specs.History.{AllOctets, framesNames}
+use Rattle.history.specs.History.{Call, history, AllOctets, framesIn, EachNames}
 use Rattle.history.specs.Restores.{Sized}
 use Rattle.history.proofs.Octets.{one-more, both-octets, big-octets, little-octets, frame-octets}
 use Rattle.history.proofs.Replays.{frames-names}
+use Rattle.history.proofs.History.{lengths-kept}
+use Rattle.history.proofs.Kept.{octets-kept, words-kept}
 
 all-both : (a b : List (List ℕ)) → AllOctets a → AllOctets b → AllOctets (a ++ b)
 all-both [] b x y = y
@@ -55,5 +59,19 @@ module _ (m : Memory) (octets : Octets (m .eeprom)) where
       (all-each (memoryPacket (m .eeprom)) (blocks e) (λ k. omega (arith, length-memory-packet (m .eeprom) k)) memory-octets)
       (all-each (wordPacket (m .settings)) s (λ k. omega (arith, length-word-packet (m .settings) k)) word-octets)
 
-  pub saved-named : (d : Device) → Sized m → Words (m .settings) → framesNames d (length (m .eeprom)) (length (m .settings)) (framesFor m) ≡ writesFor m
-  saved-named d fits words = frames-names d _ _ (framesFor m) all-frames (writesFor m) (saved-writes m (fits .0) (fits .1) words) .0
+  -- the save's own bytes
+  save-frames : framesIn (saveOf m) ≡ framesFor m
+  unfolding saveOf
+  save-frames =
+      let e = length (m .eeprom) in
+      let s = length (m .settings) in
+      ap (λ (l : List ℕ). streamOf l .frames) (drop-at (shapeField e s) (fieldsFor m) 11 (length-shape e s)) ∙ ap (λ (x : Stream). x .frames) (save-stream m)
+
+  pub saved-named : Sized m → Words (m .settings) → EachNames (framesIn (saveOf m)) (writesFor m)
+  saved-named fits words = rw save-frames (frames-names _ _ (framesFor m) all-frames (writesFor m) (saved-writes m (fits .0) (fits .1) words) .0)
+
+-- so every frame of the save that a history ends with
+pub history-named : (cs : List Call) (m : Memory) → Sized m → Octets (m .eeprom) → Words (m .settings) → let after = history cs m in EachNames (framesIn (saveOf after)) (writesFor after)
+history-named cs m fits octets words =
+    let kept = lengths-kept cs m in
+    saved-named (history cs m) (octets-kept cs m octets) (rw (kept .0, kept .1) fits) (words-kept cs m words)

@@ -6,21 +6,20 @@ use lib.ListN.{length}
 use Rattle.octets.specs.Outcome.{Outcome, accepted, refused, onAccepted}
 use Rattle.octets.specs.Number.{bigBytes}
 use Rattle.octets.specs.Over.{overAt}
-use Rattle.octets.specs.Place.{partOf}
 use Rattle.octets.proofs.Choosing.{either-lt}
 use Rattle.octets.proofs.Overlay.{length-over-at, put-inside}
 use Rattle.octets.proofs.InBytes.{length-big}
 use Rattle.facts.specs.Eeprom.{atTimestamp, atTimestamp2x4}
 use Rattle.commands.specs.declared.Commands.{Commands}
 use Rattle.processor.specs.Memory.{Memory, memory, Store, toEeprom, putAt, store}
-use Rattle.device.specs.Effect.{effectOf}
+use Rattle.device.specs.Names.{names}
 use Rattle.processor.specs.Puts.{AllWithin}
 use Rattle.processor.specs.Calls.{writeBytes, setTimestamp}
 use Rattle.device.specs.Execute.{Left, receivedInto, executedInto, executedRecord}
 use Rattle.processor.specs.declared.Device.{Device}
-use Rattle.device.proofs.Accepted.{Does, Received, received-does, executed-into-does, executed-does}
+use Rattle.device.proofs.Accepted.{Received, received-does, executed-into-does, executed-does}
 use Rattle.device.proofs.Refusals.{Kept, received-kept, executed-into-kept, executed-kept}
-use Rattle.history.specs.History.{onBoth, writesIfAccepted, frameNames, ifAccepted}
+use Rattle.history.specs.History.{onBoth, frameNames, ifAccepted}
 
 -- what is left where an outcome takes these writes
 abbrev pub Right : Memory → Outcome Unit → List Store → Memory → Type 0
@@ -28,12 +27,6 @@ Right m o ws after = (after ≡ store (ifAccepted o ws) m) × AllWithin (length 
 
 -- ---- commands
 module _ (d : Device) (m : Memory) (out : List ℕ) where
-  abbrev e : ℕ
-  e = length (m .eeprom)
-
-  abbrev s : ℕ
-  s = length (m .settings)
-
   -- refused calls keep all, so that the accepted ones are left
   by-answer : {A : Type 0} (left : Left A) (ws : List Store) → Kept m out left → ((a : A) → left .0 ≡ accepted a → Right m (accepted tt) ws (left .1)) → Right m (onBoth left .0) ws (onBoth left .1)
   by-answer left ws kept does = go (left .0) refl
@@ -42,19 +35,16 @@ module _ (d : Device) (m : Memory) (out : List ℕ) where
       go (accepted a) q = does a q
       go (refused k) q = (kept k q .0, tt)
 
-  does-right : (c : Commands) (p : List ℕ) (after : Memory) → Does d c p m after → Right m (accepted tt) (writesIfAccepted (effectOf d p e s c)) after
-  does-right c p after h = rw (h .means) (h .stores, h .inside)
+  pub executed-right : (c : Commands) (p : List ℕ) → let left = onBoth (executedRecord d c p m out) in Right m (left .0) (names p c) (left .1)
+  executed-right c p = by-answer _ _ (executed-kept m out d c p) (λ r q. let h = executed-does m out d c p q in (h .stores, h .inside))
 
-  pub executed-right : (c : Commands) (p : List ℕ) → let left = onBoth (executedRecord d c p m out) in Right m (left .0) (writesIfAccepted (effectOf d p e s c)) (left .1)
-  executed-right c p = by-answer _ _ (executed-kept m out d c p) (λ r q. does-right c p _ (executed-does m out d c p q))
+  pub executed-into-right : (c : Commands) (p : List ℕ) → let left = onBoth (executedInto d c p m out) in Right m (left .0) (names p c) (left .1)
+  executed-into-right c p = by-answer _ _ (executed-into-kept m out d c p) (λ n q. let h = executed-into-does m out d c p q in (h .stores, h .inside))
 
-  pub executed-into-right : (c : Commands) (p : List ℕ) → let left = onBoth (executedInto d c p m out) in Right m (left .0) (writesIfAccepted (effectOf d p e s c)) (left .1)
-  executed-into-right c p = by-answer _ _ (executed-into-kept m out d c p) (λ n q. does-right c p _ (executed-into-does m out d c p q))
+  frame-right : (frame : List ℕ) (after : Memory) → Received m out frame after → Right m (accepted tt) (frameNames frame) after
+  frame-right frame after h = rw (h .receives, h .reads) (h .does-it .stores, h .does-it .inside)
 
-  frame-right : (frame : List ℕ) (after : Memory) → Received m out d frame after → Right m (accepted tt) (frameNames d e s frame) after
-  frame-right frame after h = rw (h .receives, h .reads) (does-right (h .command) (partOf frame (h .place)) after (h .does-it))
-
-  pub received-right : (frame : List ℕ) → let left = onBoth (receivedInto d frame m out) in Right m (left .0) (frameNames d e s frame) (left .1)
+  pub received-right : (frame : List ℕ) → let left = onBoth (receivedInto d frame m out) in Right m (left .0) (frameNames frame) (left .1)
   received-right frame = by-answer _ _ (received-kept m out d frame) (λ n q. frame-right frame _ (received-does m out d frame q))
 
 -- ---- the calls on the EEPROM

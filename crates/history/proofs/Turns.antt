@@ -40,7 +40,7 @@ module _ (d : Device) (out : List ℕ) (room : 2 ≤ length out) where
       rw (sized, sent .receives, sent .puts .reads, sent .puts .does d, acknowledged out room) (refl, refl)
 
   in-turn : (frames : List (List ℕ)) (octets : AllOctets frames) (m : Memory) (ws : List Store) → oversized m ≡ false → allMean (length (m .eeprom)) (length (m .settings)) frames ≡ accepted ws
-      → AllAccepted d (inTurn frames octets out) m × (history d (inTurn frames octets out) m ≡ store ws m)
+      → AllAccepted (inTurn d frames octets out) m × (history (inTurn d frames octets out) m ≡ store ws m)
   in-turn [] octets m ws sized h = let none : [] ≡ ws = same-value h in (tt, rw (← none))
   in-turn (frame ∷ frames) octets m ws sized h =
       let e = length (m .eeprom) in
@@ -52,8 +52,8 @@ module _ (d : Device) (out : List ℕ) (room : 2 ≤ length out) where
       let kept = put-sizes w m in
       let rest = in-turn frames (octets .1) (storeOne w m) (others .value) (rw (kept .0, kept .1) sized) (rw (kept .0, kept .1) (others .first)) in
       let all : w ∷ others .value ≡ ws = same-value (others .second) in
-      let calls = inTurn frames (octets .1) out in
-      ((ap (onAccepted (λ n. tt)) (one .0), subst (AllAccepted d calls) (sym (one .1)) (rest .0)), ap (history d calls) (one .1) ∙ rest .1 ∙ ap (λ (ws : List Store). store ws m) all)
+      let calls = inTurn d frames (octets .1) out in
+      ((ap (onAccepted (λ n. tt)) (one .0), subst (AllAccepted calls) (sym (one .1)) (rest .0)), ap (history calls) (one .1) ∙ rest .1 ∙ ap (λ (ws : List Store). store ws m) all)
 
 -- what is known of an accepted replay
 record Replayed (m : Memory) (l : List ℕ) (after : Memory) : Type 0 where
@@ -74,7 +74,7 @@ replayed m l = stored o refl
 
 -- an output of two bytes is enough for each
 pub replay-in-turn : (d : Device) (m : Memory) (l : List ℕ) (octets : Octets l) (out : List ℕ) → 2 ≤ length out → replayOf m l .0 ≡ accepted tt
-    → let calls = inTurn (framesIn l) (frames-octets l octets) out in AllAccepted d calls m × (history d calls m ≡ replayOf m l .1)
+    → let calls = inTurn d (framesIn l) (frames-octets l octets) out in AllAccepted calls m × (history calls m ≡ replayOf m l .1)
 replay-in-turn d m l octets out room h =
     let r = replayed m l h in
     let turn = in-turn d out room (framesIn l) (frames-octets l octets) m (r .save .writes) (checked-sized l _ _ (r .checked)) (checked-means l _ _ (r .checked)) in

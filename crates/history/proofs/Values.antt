@@ -1,35 +1,36 @@
--- What a call names at a word of the settings is a word: it was four bytes.
-use Prim.Native.Nat.{ℕ, zero, suc, _+_}
+-- What a call names is bytes for the EEPROM and words for the settings: it was read from bytes, or is of its type.
+use Prim.Native.Nat.{ℕ, _<_, min}
+use mathlib.Core.Path.{_≡_, refl, subst}
 use mathlib.Core.Bool.{Bool, true, false}
 use mathlib.Core.List.{List, [], _∷_}
-use lib.ListN.{length}
+use native.Mathlib.Omega.{arith}
+use lib.Dec.{lit<}
 use lib.Ieee.{binary32, toBits}
-use Rattle.octets.specs.Refusals.{outside}
-use Rattle.octets.specs.Outcome.{Outcome, accepted, refused, andThen}
-use Rattle.octets.specs.Choice.{pick, ifLt, ifEq}
-use Rattle.octets.specs.Number.{at, Octets, littleAt}
-use Rattle.octets.specs.Place.{partOf, isOutside}
+use Rattle.octets.specs.Outcome.{Outcome, accepted, refused, onAccepted, andThen}
+use Rattle.octets.specs.Choice.{ifEq}
+use Rattle.octets.specs.Number.{at, Octets}
+use Rattle.octets.specs.Place.{partOf}
+use Rattle.octets.specs.Reading.{needing}
 use Rattle.octets.specs.declared.Place.{Place}
-use Rattle.octets.proofs.Choosing.{either-lt, either-eq}
+use Rattle.octets.proofs.Choosing.{either-eq, was-above}
+use Rattle.octets.proofs.Outcomes.{same-value}
 use Rattle.octets.proofs.InBytes.{little-lt}
 use Rattle.packet.specs.Receipt.{plainOf}
-use Rattle.fields.specs.Value.{valueBytes, valueOutside}
+use Rattle.numbers.specs.Gain.{gainByte}
+use Rattle.fields.specs.Addr.{bit}
+use Rattle.fields.specs.Value.{valueBytes}
 use Rattle.fields.specs.declared.value.Value.{Value}
 use Rattle.fields.specs.declared.value.Value.the-variants.{Float, FixedPoint, Int, Int32, Unknown as UnknownValue}
-use Rattle.commands.specs.Decode.{commandOf}
+use Rattle.commands.specs.Decode.{commandOf, commandBy}
 use Rattle.commands.specs.declared.Commands.{Commands}
 use Rattle.commands.specs.declared.Commands.the-variants.{ReadHardwareId, ReadFloats, WriteMemory, ReadMemory, SetConfig, SetSource, SetMute, SetVolume, WriteBiquad, WriteBiquadBypass, Read, Write, FirLoadStart, FirLoadData, FirLoadEnd, DiracBypass, BulkLoad, BulkLoadFilterData, Unk07, SwitchMux, Unknown}
-use Rattle.responses.specs.declared.Responses.{Responses}
-use Rattle.responses.specs.declared.Responses.the-variants.{Ack}
-use Rattle.processor.specs.Memory.{toEeprom, toSettings}
-use Rattle.processor.specs.Create.{newMemory}
-use Rattle.device.specs.Effect.{Effect, effect, tellsOf, writeMemoryDoes, writeDoes, setByte, effectOf}
-use Rattle.processor.specs.declared.Device.{Device}
+use Rattle.device.specs.Names.{names}
+use Rattle.history.specs.Types.{OfTypes}
+use Rattle.history.specs.History.{Call, bare, new, receive, execute, execute-into, write-u8, write-u16, write-u32, set-serial, set-timestamp, replay, save, ifRead, AllOctets, frameNames, framesNames, framesIn, named}
 use Rattle.history.proofs.Codec.{part-octets}
-use Rattle.history.specs.History.{Call, bare, new, blank, receive, execute, execute-into, write-u8, write-u16, write-u32, set-serial, set-timestamp, replay, save, writesIfAccepted, AllOctets, frameNames, framesNames, framesIn, named}
 use Rattle.history.proofs.Octets.{big-octets, little-octets}
 use Rattle.history.proofs.Replays.{frames-octets}
-use Rattle.history.proofs.Words.{AllWords, both-words, whole-words, zero-words, meters-words}
+use Rattle.history.proofs.Fits.{AllFit, both-fit, byte, blank-fit, new-fit}
 
 value-octets : (v : Value) (p : List ℕ) → Octets p → Octets (valueBytes v p)
 value-octets (Float x) p octets = little-octets 4 (toBits binary32 x)
@@ -38,80 +39,90 @@ value-octets (Int n) p octets = little-octets 4 n
 value-octets (Int32 n) p octets = big-octets 4 n
 value-octets (UnknownValue part) p octets = part-octets p part octets
 
+-- ---- a command that is read is of its types
+read-of-types : (p : List ℕ) → Octets p → (c : Commands) → commandOf p ≡ accepted c → OfTypes c
+unfolding commandOf commandBy
+read-of-types p octets c h =
+    let some = was-above _ _ _ _ (was-above _ _ _ _ h .1) .1 in
+    kind 0x02 (given _ _ tt) (kind 0x04 (given _ _ tt) (kind 0x05 (given _ _ tt) (kind 0x06 (is _ tt) (kind 0x07 (given _ _ tt) (kind 0x12 (is _ tt)
+    (kind 0x13 (given _ _ tt) (kind 0x14 (given _ _ tt) (kind 0x17 (given _ _ tt) (kind 0x19 (given _ _ tt) (kind 0x25 (given _ _ (octets 1))
+    (kind 0x31 (is _ tt) (kind 0x29 (given _ _ tt) (kind 0x30 (λ e. is _ tt (was-above _ _ _ _ (was-above _ _ _ _ e .1) .1)) (kind 0x34 (given _ _ (octets 1))
+    (kind 0x39 (given _ _ tt) (kind 0x3A (given _ _ tt) (kind 0x3B (is _ tt) (kind 0x42 (given _ _ tt) (is _ tt))))))))))))))))))) some
+  where
+    G : Outcome Commands → Type 0
+    G o = o ≡ accepted c → OfTypes c
+
+    kind : {x y : Outcome Commands} (b : ℕ) → G x → G y → G (ifEq (at p 0) b x y)
+    kind b f g = either-eq G (at p 0) b _ _ (λ e. f) (λ n. g)
+
+    is : (x : Commands) → OfTypes x → G (accepted x)
+    is x typed e = subst OfTypes (same-value e) typed
+
+    given : (n : ℕ) (x : Commands) → OfTypes x → G (needing n p x)
+    given n x typed e = is x typed (was-above _ _ _ _ e .1)
+
 -- ---- commands
-abbrev WordsOf : Outcome Effect → Type 0
-WordsOf o = AllWords (writesIfAccepted o)
+min-lt : (n : ℕ) → min n 255 < 256
+min-lt n = omega arith
 
-module _ (d : Device) (e s : ℕ) where
-  module _ (p : List ℕ) (octets : Octets p) where
-    of-memory : (a : ℕ) (part : Place) → WordsOf (writeMemoryDoes p e a part)
-    of-memory a part = go (isOutside part (length p))
-      where
-        go : (b : Bool) → WordsOf (pick b (refused outside) (ifLt e (a + part .len) (refused outside) (accepted (effect Ack (toEeprom a (partOf p part) ∷ [])))))
-        go true = tt
-        go false = either-lt WordsOf _ _ _ _ (λ h. tt) (λ h. tt)
+gain-lt : (bits : ℕ) → gainByte bits < 256
+unfolding gainByte
+gain-lt bits = either-eq (λ n. n < 256) _ _ _ _ (λ h. either-eq (λ n. n < 256) _ _ _ _ (λ g. lit< tt) (λ g. lit< tt)) (λ h. min-lt _)
 
-    of-word : (a : ℕ) (v : Value) → WordsOf (writeDoes p s a v)
-    of-word a v = go (valueOutside v (length p))
-      where
-        put : Outcome Effect
-        put = accepted (effect Ack (toSettings a (littleAt 4 (valueBytes v p) 0) ∷ []))
+bit-lt : (b : Bool) → bit b < 256
+bit-lt true = lit< tt
+bit-lt false = lit< tt
 
-        go : (b : Bool) → WordsOf (pick b (refused outside) (ifEq (length (valueBytes v p)) 4 (ifLt a s put (refused outside)) (accepted (tellsOf Ack))))
-        go true = tt
-        go false = either-eq WordsOf _ _ _ _ (λ h. either-lt WordsOf _ _ _ _ (λ g. (little-lt (valueBytes v p) (value-octets v p octets) 4 0, tt)) (λ g. tt)) (λ h. tt)
+module _ (p : List ℕ) (octets : Octets p) where
+  names-fit : (c : Commands) → OfTypes c → AllFit (names p c)
+  names-fit (WriteMemory a place) typed = (part-octets p place octets, tt)
+  names-fit (Write a v) typed = either-eq AllFit _ _ _ _ (λ h. (little-lt (valueBytes v p) (value-octets v p octets) 4 0, tt)) (λ h. tt)
+  names-fit (SetConfig config reset) typed = (byte config typed, tt)
+  names-fit (SetSource n) typed = (byte n typed, tt)
+  names-fit (SetMute value) typed = (byte _ (bit-lt value), tt)
+  names-fit (SetVolume gain) typed = (byte _ (gain-lt (toBits binary32 (gain .0))), tt)
+  names-fit ReadHardwareId typed = tt
+  names-fit (ReadMemory a size) typed = tt
+  names-fit (ReadFloats a len) typed = tt
+  names-fit (FirLoadStart index) typed = tt
+  names-fit (Unk07 payload) typed = tt
+  names-fit (Read a len) typed = tt
+  names-fit (WriteBiquad a) typed = tt
+  names-fit (WriteBiquadBypass a value) typed = tt
+  names-fit (FirLoadData index floats) typed = tt
+  names-fit FirLoadEnd typed = tt
+  names-fit (DiracBypass value) typed = tt
+  names-fit (BulkLoad payload) typed = tt
+  names-fit (BulkLoadFilterData payload) typed = tt
+  names-fit (SwitchMux mux) typed = tt
+  names-fit (Unknown id payload) typed = tt
 
-    of-byte : (a value : ℕ) (r : Responses) → WordsOf (setByte e a value r)
-    of-byte a value r = either-lt WordsOf _ _ _ _ (λ h. tt) (λ h. tt)
+  packet-fit : (o : Outcome Commands) → commandOf p ≡ o → AllFit (ifRead (onAccepted (names p) o))
+  packet-fit (accepted c) h = names-fit c (read-of-types p octets c h)
+  packet-fit (refused k) h = tt
 
-    effect-words : (c : Commands) → WordsOf (effectOf d p e s c)
-    effect-words ReadHardwareId = tt
-    effect-words (ReadMemory a size) = either-lt WordsOf _ _ _ _ (λ h. tt) (λ h. tt)
-    effect-words (WriteMemory a part) = of-memory a part
-    effect-words (ReadFloats a len) = either-lt WordsOf _ _ _ _ (λ h. tt) (λ h. tt)
-    effect-words (Write a v) = of-word (a .val) v
-    effect-words (SetConfig config reset) = of-byte _ _ _
-    effect-words (SetSource n) = of-byte _ _ _
-    effect-words (SetMute value) = of-byte _ _ _
-    effect-words (SetVolume gain) = of-byte _ _ _
-    effect-words (FirLoadStart index) = tt
-    effect-words (Unk07 payload) = tt
-    effect-words (Read a len) = tt
-    effect-words (WriteBiquad a) = tt
-    effect-words (WriteBiquadBypass a value) = tt
-    effect-words (FirLoadData index floats) = tt
-    effect-words FirLoadEnd = tt
-    effect-words (DiracBypass value) = tt
-    effect-words (BulkLoad payload) = tt
-    effect-words (BulkLoadFilterData payload) = tt
-    effect-words (SwitchMux mux) = tt
-    effect-words (Unknown id payload) = tt
+-- ---- frames
+frame-fit : (frame : List ℕ) → Octets frame → AllFit (frameNames frame)
+frame-fit frame octets = received (plainOf frame)
+  where
+    received : (o : Outcome Place) → AllFit (ifRead (andThen o (λ (part : Place). onAccepted (names (partOf frame part)) (commandOf (partOf frame part)))))
+    received (accepted part) = packet-fit (partOf frame part) (part-octets frame part octets) (commandOf (partOf frame part)) refl
+    received (refused k) = tt
 
-  frame-words : (frame : List ℕ) → Octets frame → AllWords (frameNames d e s frame)
-  frame-words frame octets = received (plainOf frame)
-    where
-      read : (part : Place) (o : Outcome Commands) → WordsOf (andThen o (effectOf d (partOf frame part) e s))
-      read part (accepted c) = effect-words (partOf frame part) (part-octets frame part octets) c
-      read part (refused k) = tt
+frames-fit : (frames : List (List ℕ)) → AllOctets frames → AllFit (framesNames frames)
+frames-fit [] octets = tt
+frames-fit (frame ∷ frames) octets = both-fit (frameNames frame) _ (frame-fit frame (octets .0)) (frames-fit frames (octets .1))
 
-      received : (o : Outcome Place) → WordsOf (andThen o (λ (part : Place). andThen (commandOf (partOf frame part)) (effectOf d (partOf frame part) e s)))
-      received (accepted part) = read part (commandOf (partOf frame part))
-      received (refused k) = tt
-
-  frames-words : (frames : List (List ℕ)) → AllOctets frames → AllWords (framesNames d e s frames)
-  frames-words [] octets = tt
-  frames-words (frame ∷ frames) octets = both-words (frameNames d e s frame) _ (frame-words frame (octets .0)) (frames-words frames (octets .1))
-
-  pub named-words : (c : Call) → AllWords (named d e s c)
-  named-words (bare made) = whole-words (blank e s) (zero-words s)
-  named-words (new made meters) = whole-words (newMemory (made .«dsp_version») meters (blank e s)) (meters-words meters _ (zero-words (length (blank e s .settings))))
-  named-words (receive frame octets out) = frame-words frame octets
-  named-words (execute c p octets out) = effect-words p octets c
-  named-words (execute-into c p octets out) = effect-words p octets c
-  named-words (write-u8 a value) = tt
-  named-words (write-u16 a value) = tt
-  named-words (write-u32 a value) = tt
-  named-words (set-serial value) = tt
-  named-words (set-timestamp value) = tt
-  named-words (replay l octets) = frames-words (framesIn l) (frames-octets l octets)
-  named-words (save out) = tt
+pub named-fit : (e s : ℕ) (c : Call) → AllFit (named e s c)
+named-fit e s (bare made) = blank-fit e s
+named-fit e s (new made typed meters) = new-fit (made .«dsp_version») typed meters e s
+named-fit e s (receive d frame octets out) = frame-fit frame octets
+named-fit e s (execute d c typed p octets out) = names-fit p octets c typed
+named-fit e s (execute-into d c typed p octets out) = names-fit p octets c typed
+named-fit e s (write-u8 a value typed) = (byte value typed, tt)
+named-fit e s (write-u16 a value typed) = (big-octets 2 _, tt)
+named-fit e s (write-u32 a value typed) = (big-octets 4 _, tt)
+named-fit e s (set-serial value typed) = (big-octets 4 _, tt)
+named-fit e s (set-timestamp value typed) = (big-octets 4 _, (big-octets 2 _, tt))
+named-fit e s (replay l octets) = frames-fit (framesIn l) (frames-octets l octets)
+named-fit e s (save out) = tt

@@ -3,12 +3,9 @@ use Prim.Native.Nat.{ℕ, _≤_}
 use mathlib.Core.Path.{_≡_}
 use mathlib.Core.List.{List}
 use lib.ListN.{length, take}
-use Rattle.octets.specs.Refusals.{noRoom, wrongSizes}
-use Rattle.octets.specs.Outcome.{Outcome, accepted, refused}
-use Rattle.octets.specs.Choice.{pick, ifLt, ifEq}
-use Rattle.octets.specs.Over.{over}
-use Rattle.processor.specs.Memory.{Memory, oversized}
-use Rattle.saves.specs.Save.{saveOf, room, savedInto}
+use Rattle.octets.specs.Outcome.{accepted}
+use Rattle.processor.specs.Memory.{Memory}
+use Rattle.saves.specs.Save.{room, savedInto}
 use Rattle.saves.specs.Replay.{replayOf}
 
 -- "EEPROM has E bytes, settings S words, each 0 to 65,536"
@@ -26,13 +23,3 @@ roomFor m = room (length (m .eeprom)) (length (m .settings))
 pub record Restored (one other : Memory) (out : List ℕ) : Type 0 where
   pub isWritten : savedInto one out .0 ≡ accepted (roomFor one)
   pub isReplayed : replayOf other (take (roomFor one) (savedInto one out .1)) ≡ (accepted tt, one)
-
--- What `transfer` answers and leaves. A refusal leaves all as it was: 14 where the sizes differ, then what saving refuses.
-abbrev pub transferOf : Memory → Memory → List ℕ → Outcome Unit × Memory × List ℕ
-transferOf one other out =
-    ifEq (length (one .eeprom)) (length (other .eeprom))
-    (ifEq (length (one .settings)) (length (other .settings))
-    (pick (oversized one) (refused wrongSizes, other, out)
-    (ifLt (length out) (roomFor one) (refused noRoom, other, out) (accepted tt, one, over (saveOf one) out)))
-    (refused wrongSizes, other, out))
-    (refused wrongSizes, other, out)

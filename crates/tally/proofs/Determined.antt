@@ -24,7 +24,6 @@ use Rattle.tally.specs.declared.Tally.{Tally}
 use Rattle.tally.proofs.Tally.zeroed.Reads as zeroed
 use Rattle.tally.proofs.Tally.count.Reads as count
 use Rattle.tally.proofs.receive.receive_counted.Reads as receive-counted
-use Rattle.tally.proofs.receive.count_lent as count-lent
 use Rattle.tally.proofs.receive.receive_lent as receive-lent
 use Rattle.tally.proofs.receive.receive_lending.Reads as receive-lending
 
@@ -39,29 +38,19 @@ pub count-fixed : Fixes Tally count.Post (λ κs answer left. answer)
 count-fixed κs args a b x y p q = agree p q
 
 pub receive-counted-fixed : Fixes (Written × Memory × List ℕ × Tally) receive-counted.Post (λ κs answer left. (answer .answer, memory (now (left .1 .1 .1 .0)) (now (left .1 .1 .1 .1 .0)), now (left .1 .1 .1 .1 .1 .0), answer .tally))
-receive-counted-fixed κs args a b x y p q = with-tally (λ w. after (args .1 .0) (written w)) (three written written-once (agree (p .0) (q .0))) (p .1) (q .1)
+receive-counted-fixed κs args a b x y p q = with-tally (λ w. after (args .0) (written w)) (three written written-once (agree (p .0) (q .0))) (p .1) (q .1)
 
 -- A function that is lent a struct has no `Reads`, since the borrow checker does not cover it: so its contract is written
 -- here once more, and `..-says` that it is that one.
-abbrev pub CountLent : (κs : Lfts 1) → Args count-lent.signature κs → Res count-lent.signature κs → AtExit count-lent.ended κs → Type 0
-CountLent κs args answer left = now (left .0) ≡ after (now (args .0)) (written (args .1 .0))
-
 abbrev pub ReceiveLent : (κs : Lfts 5) → Args receive-lent.signature κs → Res receive-lent.signature κs → AtExit receive-lent.ended κs → Type 0
 ReceiveLent κs args answer left =
     ((written answer, memory (now (left .1 .1 .1 .0)) (now (left .1 .1 .1 .1 .0)), now (left .1 .1 .1 .1 .1 .0)) ≡ receivedInto (args .1 .0) (now (args .1 .1 .0)) (memory (now (args .1 .1 .1 .0)) (now (args .1 .1 .1 .1 .0))) (now (args .1 .1 .1 .1 .1 .0)))
     × (now (left .0) ≡ after (now (args .0)) (written answer))
 
 module _ {M : Type 1} (𝓤 : URA M) (H : Heap 𝓤) (A : Atoms 𝓤) (mem : Cells.Memory → SProp 𝓤) (run : Routine → Fun 𝓤) where
-  pub count-lent-says : (κs : Lfts 1) (args : Args count-lent.signature κs) (answer : Res count-lent.signature κs) (left : AtExit count-lent.ended κs)
-      → count-lent.clauses 𝓤 H A mem run κs args .ensures tt answer left ≡ fact 𝓤 (CountLent κs args answer left)
-  count-lent-says κs args answer left = refl
-
   pub receive-lent-says : (κs : Lfts 5) (args : Args receive-lent.signature κs) (answer : Res receive-lent.signature κs) (left : AtExit receive-lent.ended κs)
       → receive-lent.clauses 𝓤 H A mem run κs args .ensures tt answer left ≡ fact 𝓤 (ReceiveLent κs args answer left)
   receive-lent-says κs args answer left = refl
-
-pub count-lent-fixed : Fixes Tally CountLent (λ κs answer left. now (left .0))
-count-lent-fixed κs args a b x y p q = agree p q
 
 pub receive-lent-fixed : Fixes (Written × Memory × List ℕ × Tally) ReceiveLent (λ κs answer left. (answer, memory (now (left .1 .1 .1 .0)) (now (left .1 .1 .1 .1 .0)), now (left .1 .1 .1 .1 .1 .0), now (left .0)))
 receive-lent-fixed κs args a b x y p q = with-tally (λ w. after (now (args .0)) (written w)) (three written written-once (agree (p .0) (q .0))) (p .1) (q .1)

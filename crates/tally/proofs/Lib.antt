@@ -1,4 +1,4 @@
 pub mod Tallies
 pub mod Said
-pub mod Counts
+pub mod Values
 pub mod Determined

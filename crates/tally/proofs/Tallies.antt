@@ -1,14 +1,11 @@
--- The tally after any history of received frames is how many were accepted and how many refused, each held at the most.
+-- The tally after any answers is how many were accepted and how many refused, each held at the most.
 use Prim.Native.Nat.{ℕ, _+_, min}
-use mathlib.Core.Path.{_≡_, _∙_}
-use mathlib.Core.List.{List, [], _∷_}
+use mathlib.Core.Path.{_≡_, refl, _∙_}
+use mathlib.Core.List.{List, [], _∷_, _++_}
 use native.Mathlib.Nat.{add-zero, zero-add}
 use native.Mathlib.Omega.{arith}
 use Rattle.octets.specs.Outcome.{Outcome, accepted, refused}
-use Rattle.processor.specs.Memory.{Memory}
-use Rattle.device.specs.Execute.{receivedInto}
-use Rattle.tally.specs.Tally.{mostCounted, tallyOf, zeroed, after, tallyAfter, answers, acceptedIn, refusedIn}
-use Rattle.processor.specs.declared.Device.{Device}
+use Rattle.tally.specs.Tally.{mostCounted, tallyOf, zeroed, after, tallyAfter, acceptedIn, refusedIn, countsOf}
 use Rattle.tally.specs.declared.Tally.{Tally}
 
 -- one more of a count that is held
@@ -16,23 +13,14 @@ one-held : (m a : ℕ) → min m (min m a + 1) ≡ min m (a + 1)
 one-held m a = omega arith
 
 -- from any counts on
-abbrev on : ℕ → ℕ → List (Outcome ℕ) → Tally
-on a r os = tallyOf (min mostCounted (a + acceptedIn os)) (min mostCounted (r + refusedIn os))
+counts-on : {A : Type 0} (os : List (Outcome A)) (a r : ℕ) → tallyAfter (tallyOf (min mostCounted a) (min mostCounted r)) os ≡ tallyOf (min mostCounted (a + acceptedIn os)) (min mostCounted (r + refusedIn os))
+counts-on [] a r = rw (add-zero a, add-zero r)
+counts-on (accepted x ∷ os) a r = let e : a + 1 + acceptedIn os ≡ a + (acceptedIn os + 1) = omega arith in rw (one-held mostCounted a, ← e) (counts-on os (a + 1) r)
+counts-on (refused k ∷ os) a r = let e : r + 1 + refusedIn os ≡ r + (refusedIn os + 1) = omega arith in rw (one-held mostCounted r, ← e) (counts-on os a (r + 1))
 
-counts-on : (d : Device) (calls : List (List ℕ × List ℕ)) (m : Memory) (a r : ℕ) → tallyAfter d (tallyOf (min mostCounted a) (min mostCounted r)) m calls ≡ on a r (answers d m calls)
-counts-on d [] m a r = rw (add-zero a, add-zero r)
-counts-on d (call ∷ calls) m a r = let left = receivedInto d (call .0) m (call .1) in step (λ n x y. counts-on d calls n x y) (left .0) (left .1)
-  where
-    step : ((n : Memory) (x y : ℕ) → tallyAfter d (tallyOf (min mostCounted x) (min mostCounted y)) n calls ≡ on x y (answers d n calls)) → (o : Outcome ℕ) (n : Memory) → tallyAfter d (after (tallyOf (min mostCounted a) (min mostCounted r)) o) n calls ≡ on a r (o ∷ answers d n calls)
-    step go (accepted k) n =
-        let os = answers d n calls in
-        let e : a + 1 + acceptedIn os ≡ a + (acceptedIn os + 1) = omega arith in
-        rw (one-held mostCounted a, ← e) (go n (a + 1) r)
-    step go (refused k) n =
-        let os = answers d n calls in
-        let e : r + 1 + refusedIn os ≡ r + (refusedIn os + 1) = omega arith in
-        rw (one-held mostCounted r, ← e) (go n a (r + 1))
+pub tally-counts : {A : Type 0} (os : List (Outcome A)) → tallyAfter zeroed os ≡ countsOf os
+tally-counts os = counts-on os 0 0 ∙ rw (zero-add (acceptedIn os), zero-add (refusedIn os))
 
-pub tally-counts : (d : Device) (m : Memory) (calls : List (List ℕ × List ℕ))
-    → tallyAfter d zeroed m calls ≡ tallyOf (min mostCounted (acceptedIn (answers d m calls))) (min mostCounted (refusedIn (answers d m calls)))
-tally-counts d m calls = counts-on d calls m 0 0 ∙ rw (zero-add (acceptedIn (answers d m calls)), zero-add (refusedIn (answers d m calls)))
+pub after-both : {A : Type 0} (os later : List (Outcome A)) (t : Tally) → tallyAfter t (os ++ later) ≡ tallyAfter (tallyAfter t os) later
+after-both [] later t = refl
+after-both (o ∷ os) later t = after-both os later (after t o)

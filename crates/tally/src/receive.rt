@@ -17,8 +17,8 @@ pub struct Counted {
 
 // Receives a frame, as `receive` does, and counts it.
 pub fn receive_counted(
-    device: Device,
     tally: Tally,
+    device: Device,
     frame: &[u8],
     eeprom: &mut [u8],
     settings: &mut [u32],
@@ -31,14 +31,7 @@ pub fn receive_counted(
     Counted { answer, tally }
 }
 
-// Counts one more answer.
-pub fn count_lent(tally: &mut Tally, answer: Written)
-    ensures { λ _. ⌜ now (tally .exit) ≡ after (now (tally .entry)) (written answer) ⌝ }
-{
-    *tally = tally.count(answer);
-}
-
-// Receives a frame and counts it in the tally that is lent.
+// The same with the tally lent, which is updated where it stands.
 pub fn receive_lent(
     tally: &mut Tally,
     device: Device,
@@ -49,12 +42,12 @@ pub fn receive_lent(
 ) -> Written
     ensures { λ r. ⌜ ((written r, memory (now (eeprom .exit)) (now (settings .exit)), now (out .exit)) ≡ receivedInto device (now (frame .entry)) (memory (now (eeprom .entry)) (now (settings .entry))) (now (out .entry))) × (now (tally .exit) ≡ after (now (tally .entry)) (written r)) ⌝ }
 {
-    let answer = receive(device, frame, eeprom, settings, out);
-    *tally = tally.count(answer);
-    answer
+    let counted = receive_counted(*tally, device, frame, eeprom, settings, out);
+    *tally = counted.tally;
+    counted.answer
 }
 
-// The same of a tally by value, which is lent for the call: a caller of this needs no reference.
+// The lent entry for a caller that has its tally by value and writes no reference: it is lent for the call.
 pub fn receive_lending(
     tally: Tally,
     device: Device,

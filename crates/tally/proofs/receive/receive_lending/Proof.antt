@@ -52,7 +52,7 @@ use Rattle.tally.specs.Tally.{after}
 use Rattle.tally.specs.declared.Tally.{Tally}
 use Rattle.tally.specs.declared.receive.Counted.{Counted}
 use Rattle.tally.proofs.Said.{all-said, all-goes, all-fit, rest}
-use Rattle.tally.proofs.Counts.{vals, tally-typed, answer-typed}
+use Rattle.tally.proofs.Values.{vals, tally-typed, answer-typed}
 use Rattle.processor.proofs.Device as D
 use Rattle.processor.proofs.Device.Laws as D′
 use Rattle.tally.proofs.Tally as T
