@@ -1,5 +1,5 @@
--- "Every frame in it means a write by demand 2's definition": received and read as any frame, each frame of a save names exactly
--- one write, that of its block or its word, whatever calls led to the save.
+-- Every frame of a save means a write by demand 2's definition: received and read as any frame, it names exactly one write, that of
+-- its block or its word, whatever calls led to the save.
 use Prim.Native.Nat.{ℕ, zero, suc, _+_, _*_, _%_, _^_, _≤_}
 use mathlib.Core.Path.{_≡_, ap, _∙_}
 use mathlib.Core.List.{List, [], _∷_, _++_}

@@ -1,5 +1,5 @@
--- Histories of a processor, and what they leave at each place. "After any run of calls, each byte and word of a processor
--- holds what the last accepted call naming it put there."
+-- Histories of a processor, and what they leave at each place. Demand 3: after any run of calls, each byte and word of a processor
+-- holds what the last accepted call naming it put there.
 use Prim.Native.Nat.{ℕ, _-_, _%_, _^_, _<_}
 use mathlib.Core.Path.{_≡_}
 use mathlib.Core.Option.{Option, none, some}
@@ -170,7 +170,7 @@ abbrev pub AllAccepted : List Call → Memory → Type 0
 AllAccepted [] m = Unit
 AllAccepted (c ∷ cs) m = (answer c m ≡ accepted tt) × AllAccepted cs (step c m)
 
--- "Every frame in it means a write": each of these frames names exactly one, and these are they
+-- Every frame of a save means a write: each of these frames names exactly one, and these are they
 abbrev pub EachNames : List (List ℕ) → List Store → Type 0
 EachNames [] [] = Unit
 EachNames [] (w ∷ ws) = ⊥
