@@ -5,6 +5,8 @@ use bench_words::read::*;
 use bench_words::*;
 use commands::Commands;
 use commands::Commands::*;
+use commands::FirData;
+use commands::Mux;
 use facts::HardwareId;
 use fields::addr::Addr;
 use fields::value::Coefficient;
@@ -47,8 +49,7 @@ fn with_place(n: Numbers) -> Commands {
         5 => WriteMemory { addr, data },
         6 => FirLoadData {
             index: byte(n.b),
-            start: n.c as usize,
-            count: n.d as usize,
+            data: fir_data(n.c, n.d),
         },
         7 => Unknown {
             cmd_id: byte(n.b),
@@ -88,17 +89,28 @@ fn with_address(n: Numbers) -> Commands {
             value: n.e == 1,
         },
         18 => Read { addr, len: first },
-        19 => SwitchMux {
-            addr,
-            max: first,
-            arg: n.f == 1,
-            slot: byte(n.g),
-        },
+        19 => SwitchMux(mux_of(addr, n)),
         20 => Write {
             addr,
             value: value_of(n.e, n.f, n.g),
         },
         _ => WriteBiquad { addr },
+    }
+}
+
+fn fir_data(start: u32, count: u32) -> FirData {
+    FirData {
+        start: start as usize,
+        count: count as usize,
+    }
+}
+
+fn mux_of(addr: Addr, n: Numbers) -> Mux {
+    Mux {
+        addr,
+        max: byte(n.e),
+        arg: n.f == 1,
+        slot: byte(n.g),
     }
 }
 
@@ -153,11 +165,7 @@ fn command_numbers(command: Commands) -> Numbers {
         ReadFloats { addr, len } => of(3, addr as u32, len as u32, 0),
         ReadMemory { addr, size } => of(4, addr as u32, size as u32, 0),
         WriteMemory { addr, data } => of(5, addr as u32, low(data.start), low(data.len)),
-        FirLoadData {
-            index,
-            start,
-            count,
-        } => of(6, index as u32, low(start), low(count)),
+        FirLoadData { index, data } => of(6, index as u32, low(data.start), low(data.count)),
         Unknown { cmd_id, payload } => of(7, cmd_id as u32, low(payload.start), low(payload.len)),
         BulkLoad { payload } => of_place(8, payload),
         BulkLoadFilterData { payload } => of_place(9, payload),
@@ -170,12 +178,14 @@ fn command_numbers(command: Commands) -> Numbers {
         Unk07 { payload } => of(16, payload as u32, 0, 0),
         WriteBiquadBypass { addr, value } => of_addr(17, addr, of(value as u32, 0, 0, 0)),
         Read { addr, len } => of_addr(18, addr, of(len as u32, 0, 0, 0)),
-        SwitchMux {
-            addr,
-            max,
-            arg,
-            slot,
-        } => of_addr(19, addr, of(max as u32, arg as u32, slot as u32, 0)),
+        SwitchMux(mux) => {
+            let addr = mux.addr;
+            of_addr(
+                19,
+                addr,
+                of(mux.max as u32, mux.arg as u32, mux.slot as u32, 0),
+            )
+        }
         Write { addr, value: one } => of_addr(20, addr, value(one)),
         WriteBiquad { addr } => of_addr(21, addr, of(0, 0, 0, 0)),
     }

@@ -124,6 +124,37 @@ module _ (m : Memory) where
   unfolding over
   in-front out = take-at (saveOf m) (drop (length (saveOf m)) out) (length (saveOf m)) refl
 
+  -- the four parts, put one behind the other
+  module _ (l : List ℕ) (enough : room (length (m .eeprom)) (length (m .settings)) ≤ length l) (words end : ℕ) (words-at : words ≡ 11 + length (m .eeprom) + 8 * blocks (length (m .eeprom))) (end-at : end ≡ words + 13 * length (m .settings)) where
+    abbrev e : ℕ
+    e = length (m .eeprom)
+
+    abbrev s : ℕ
+    s = length (m .settings)
+
+    abbrev bs : List ℕ
+    bs = rising (memoryPacket (m .eeprom)) (blocks e)
+
+    abbrev ws : List ℕ
+    ws = rising (wordPacket (m .settings)) s
+
+    abbrev behind : ℕ → List ℕ → List ℕ
+    behind n o = take (length o - n) (drop n o)
+
+    abbrev back-at : ℕ → List ℕ → List ℕ → List ℕ
+    back-at n o y = take n o ++ (y ++ drop (length o - n) (drop n o))
+
+    pub parts-put : (o y₁ y₂ y₃ : List ℕ) → o ≡ over (shapeField e s) l → y₁ ≡ over bs (behind 11 o) → y₂ ≡ over ws (behind words (back-at 11 o y₁))
+        → y₃ ≡ over (endField (blocks e + s)) (behind end (back-at words (back-at 11 o y₁) y₂)) → back-at end (back-at words (back-at 11 o y₁) y₂) y₃ ≡ over (saveOf m) l
+    unfolding room
+    parts-put o y₁ y₂ y₃ first second third fourth =
+        let long : length (shapeField e s ++ bs) ≡ words = rw (length-append, length-shape, blocks-whole (m .eeprom)) (omega arith) in
+        let longer : length ((shapeField e s ++ bs) ++ ws) ≡ end = rw (length-append, long, length-words (m .settings) s) (omega arith) in
+        let one = over-rest (shapeField e s) l first bs y₁ 11 second (sym (length-shape e s)) (omega (arith, blocks-whole (m .eeprom))) in
+        let two = over-rest (shapeField e s ++ bs) l one ws y₂ words third (sym long) (omega (arith, length-words (m .settings) s)) in
+        over-rest ((shapeField e s ++ bs) ++ ws) l two (endField (blocks e + s)) y₃ end fourth (sym longer) (omega (arith, length-end (blocks e + s)))
+        ∙ ap (λ (w : List ℕ). over w l) save-parts
+
 -- ---- a field as it is put: its head, then its content
 pub field-parts : (tag n : ℕ) (content : List ℕ) → n ≡ length content → (tag ∷ bigBytes 2 n) ++ content ≡ saveField tag content
 unfolding saveField
