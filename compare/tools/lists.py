@@ -48,9 +48,9 @@ def is_part(crate):
 class Function:
     """A function of a crate: `name` as docs/CONTRACTS.md has it, `Type::name`, `module::name` or `name`."""
 
-    def __init__(self, crate, module, owner, short, public, answer):
+    def __init__(self, crate, module, owner, short, public, answer, body=""):
         self.crate, self.module, self.owner, self.short = crate, module, owner, short
-        self.public, self.answer = public, answer
+        self.public, self.answer, self.body = public, answer, body
         self.name = f"{owner or module}::{short}" if owner or module else short
 
     def spellings(self):
@@ -97,7 +97,34 @@ def functions(crate):
                 said = re.search(r"\) -> ([^\n{]+)", head_of(lines, i, m.group(1)))
                 answer = said.group(1).strip() if said else ""
                 inside = owner if m.group(1) else None
-                yield Function(crate, module, inside, m.group(3), bool(m.group(2)) and open_to_all, answer)
+                end = next((j for j in range(i, len(lines)) if lines[j] == m.group(1) + "}"), i)
+                body = "\n".join(lines[i + 1:end])
+                yield Function(crate, module, inside, m.group(3), bool(m.group(2)) and open_to_all, answer, body)
+
+
+CALL = re.compile(r"(?:(\w+)::|(\.))?\b([a-z_0-9]+)\(")
+
+
+def reached():
+    """Crate and name of each function that a program can come to, by the names in the bodies: `Type::f(` and `module::f(` are that type's or
+    module's, or any where it is another name for them, `.f(` any type's, and `f(` any that is none's."""
+    everything = [function for crate in crates() for function in functions(crate)]
+    by_name = {}
+    for function in everything:
+        by_name.setdefault(function.short, []).append(function)
+    found, waiting = set(), [function for function in everything if is_program(function.crate)]
+    while waiting:
+        function = waiting.pop()
+        if (function.crate, function.name) in found:
+            continue
+        found.add((function.crate, function.name))
+        for before, dot, name in CALL.findall(function.body):
+            named = by_name.get(name, [])
+            if before:
+                waiting += [other for other in named if before in (other.owner, other.module.split("::")[-1], other.crate)] or named
+            else:
+                waiting += [other for other in named if bool(other.owner) == bool(dot)]
+    return found
 
 
 def refusing_types():
