@@ -71,12 +71,13 @@ struct More {
     ended: bool,
 }
 
-// Reads behind the line that is not ended yet, which goes to the front.
+// Reads behind the line that is not ended yet, which goes to the front; where it fills the input, now or
+// before, it is too long.
 fn read_more(input: &mut [u8], used: usize, have: usize, long: bool) -> More
     requires { ⌜ (used ≤ have) × (have ≤ length (now input)) ⌝ }
     ensures { λ r. ⌜ r .have ≤ length (now (input .entry)) ⌝ }
 {
-    let dropped = too_long(used, have, input.len(), long);
+    let dropped = used == 0 && (long || have == input.len());
     let kept = keep(input, used, have, dropped);
     let came = read_behind(input, kept);
     More {
@@ -94,14 +95,6 @@ fn behind_line(end: usize, have: usize) -> usize
         return end + 1;
     }
     have
-}
-
-// Whether the line that is not ended yet has filled the input, now or before.
-fn too_long(used: usize, have: usize, room: usize, long: bool) -> bool {
-    if used != 0 {
-        return false;
-    }
-    long || have == room
 }
 
 // Reads behind the first `have` bytes, and answers how many bytes came.

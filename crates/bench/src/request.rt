@@ -1,10 +1,6 @@
 // One request: read by the table, answered by the part whose verb it is, and put by the table.
-use bench_device::state::State;
-use bench_words::Answer;
-use bench_words::Words;
-use bench_words::head;
-use bench_words::low;
-use bench_words::read::read;
+use bench_device::state::*;
+use bench_words::*;
 use libc::STDOUT_FILENO;
 
 // Writes the answer to a line, and answers what is held after it.
@@ -22,7 +18,7 @@ pub fn answer(
     }
     let mut bytes = [0u8; 2048];
     let mut lent = [0xeeu8; 4096];
-    let words = read(line, &mut bytes);
+    let words = read::read(line, &mut bytes);
     answered(
         words,
         state,
@@ -49,6 +45,8 @@ fn is_remark(line: &[u8], long: bool) -> bool {
     false
 }
 
+// The bytes of a request that an answer shows are those of its first word, and the output of its call
+// is so much of what is lent as it asks for.
 fn answered(
     words: Words,
     state: State,
@@ -59,43 +57,26 @@ fn answered(
     settings: &mut [u32],
     kept: &mut [u8],
 ) -> State {
-    if !words.of_processor || words.verb == 0 || 0 < words.bad {
-        by_codec(words, bytes, lent, output);
-        return state;
-    }
-    by_device(words, state, bytes, lent, output, eeprom, settings, kept)
-}
-
-fn by_codec(words: Words, bytes: &[u8], lent: &mut [u8], output: &mut [u8]) {
-    let answer = bench_codec::ask(words, bytes, lent);
-    put_answer(answer, words, bytes, &lent[..], output);
-}
-
-fn by_device(
-    words: Words,
-    state: State,
-    bytes: &[u8],
-    lent: &mut [u8],
-    output: &mut [u8],
-    eeprom: &mut [u8],
-    settings: &mut [u32],
-    kept: &mut [u8],
-) -> State {
-    let asked = bench_device::ask(words, bytes, lent, state, eeprom, settings, kept);
+    let asked = ask(words, bytes, lent, state, eeprom, settings, kept);
     let answer = asked.answer;
-    put_answer(answer, words, bytes, &lent[..], output);
+    let n = words.from(0);
+    let shown = head(&lent[..], low(words.room));
+    let end = bench_answers::put(answer, words.answer, head(bytes, n.a), shown, output);
+    io::write_all(STDOUT_FILENO, &output[0..end]);
     asked.state
 }
 
-// The bytes of a request that an answer shows are those of its first word, and the output of its call
-// is so much of what is lent as it asks for.
-fn put_answer(answer: Answer, words: Words, bytes: &[u8], lent: &[u8], output: &mut [u8]) {
-    let n = words.from(0);
-    let end = bench_answers::put(
-        answer,
-        head(bytes, n.a),
-        head(lent, low(words.room)),
-        output,
-    );
-    io::write_all(STDOUT_FILENO, &output[0..end]);
+fn ask(
+    words: Words,
+    bytes: &[u8],
+    lent: &mut [u8],
+    state: State,
+    eeprom: &mut [u8],
+    settings: &mut [u32],
+    kept: &mut [u8],
+) -> Asked {
+    if words.of_processor {
+        return bench_device::ask(words, bytes, lent, state, eeprom, settings, kept);
+    }
+    same(bench_codec::ask(words, bytes, lent), state)
 }

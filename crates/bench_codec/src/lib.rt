@@ -20,10 +20,10 @@ pub fn ask(words: Words, bytes: &[u8], lent: &mut [u8]) -> Answer
 {
     let room = words.room;
     if words.verb == 0 {
-        return plain(form::BAD_VERB);
+        return fill(BAD_VERB, NO_NUMBERS);
     }
     if 0 < words.bad {
-        return one(form::BAD_ARGUMENT, low(words.bad));
+        return fill(BAD_ARGUMENT, of(low(words.bad), 0, 0, 0));
     }
     if lent.len() < room {
         return refused(refusal::NO_ROOM);

@@ -1,26 +1,29 @@
 // Requests over the crate commands: commands and dialects.
-use crate::on_fields::of_addr;
-use crate::on_fields::of_value;
+use crate::on_fields::*;
 use bench_records::records::*;
 use bench_records::values::*;
 use bench_words::answer::*;
 use bench_words::*;
 use commands::Commands;
 use commands::decode::ReadCommand;
-use commands::dialect::AddrEncoding;
+use commands::dialect::AddrEncoding::*;
 use commands::dialect::Dialect;
-use commands::dialect::FloatEncoding;
-use commands::write_int;
+use commands::dialect::FloatEncoding::*;
+use commands::write_int::*;
 use numbers::float::from_bits;
 
 pub fn ask(words: Words, n: Numbers, bytes: &[u8], out: &mut [u8]) -> Answer {
+    let payload = head(bytes, n.a);
+    let one = command_of(words.from(2));
+    let numbers = words.numbers;
+    let values = five_of(numbers);
     let verb = words.verb;
     match verb {
-        14 => parsed(head(bytes, n.a)),
-        15 => mute(n),
-        16 => integers(),
-        17 => encoded(words, head(bytes, n.a), out),
-        _ => encoded_frame(words, head(bytes, n.a), out),
+        14 => parsed(payload),
+        15 => command(Commands::mute(addr_of(n.a, n.b, n.c), n.d == 1), values),
+        16 => said(of(DISABLED as u32, ENABLED as u32, BYPASSED as u32, 0)),
+        17 => written(one.to_bytes(values, payload, out)),
+        _ => written(one.to_frame(values, payload, out)),
     }
 }
 
@@ -32,36 +35,6 @@ fn parsed(packet: &[u8]) -> Answer {
         ReadCommand::Command(read) => command(read, values),
         ReadCommand::Refused(number) => refused(number),
     }
-}
-
-fn mute(n: Numbers) -> Answer {
-    let muting = Commands::mute(addr_of(n.a, n.b, n.c), n.d == 1);
-    command(muting, five_of([0; 32]))
-}
-
-fn integers() -> Answer {
-    fill(
-        form::WRITE_INT,
-        of(
-            write_int::DISABLED as u32,
-            write_int::ENABLED as u32,
-            write_int::BYPASSED as u32,
-            0,
-        ),
-    )
-}
-
-// The command stands behind its bytes and its room.
-fn encoded(words: Words, payload: &[u8], out: &mut [u8]) -> Answer {
-    let numbers = words.numbers;
-    let values = five_of(numbers);
-    written(command_of(words.from(2)).to_bytes(values, payload, out))
-}
-
-fn encoded_frame(words: Words, payload: &[u8], out: &mut [u8]) -> Answer {
-    let numbers = words.numbers;
-    let values = five_of(numbers);
-    written(command_of(words.from(2)).to_frame(values, payload, out))
 }
 
 pub fn of_dialect(verb: usize, n: Numbers) -> Answer {
@@ -81,14 +54,8 @@ pub fn of_dialect(verb: usize, n: Numbers) -> Answer {
 }
 
 fn dialect_of(len: u32, encoding: u32) -> Dialect {
-    let addr_encoding = match len {
-        1 => AddrEncoding::AddrLen2,
-        _ => AddrEncoding::AddrLen3,
-    };
-    let float_encoding = match encoding {
-        1 => FloatEncoding::Float32LE,
-        _ => FloatEncoding::FixedPoint,
-    };
+    let addr_encoding = if len == 1 { AddrLen2 } else { AddrLen3 };
+    let float_encoding = if encoding == 1 { Float32LE } else { FixedPoint };
     Dialect {
         addr_encoding,
         float_encoding,
@@ -98,13 +65,7 @@ fn dialect_of(len: u32, encoding: u32) -> Dialect {
 fn put_dialect(dialect: Dialect) -> Answer {
     let addr_encoding = dialect.addr_encoding;
     let float_encoding = dialect.float_encoding;
-    let len = match addr_encoding {
-        AddrEncoding::AddrLen2 => 1,
-        AddrEncoding::AddrLen3 => 2,
-    };
-    let encoding = match float_encoding {
-        FloatEncoding::Float32LE => 1,
-        FloatEncoding::FixedPoint => 2,
-    };
-    fill(form::DIALECT, of(len, encoding, 0, 0))
+    let len = if let AddrLen2 = addr_encoding { 1 } else { 2 };
+    let encoding = if let Float32LE = float_encoding { 1 } else { 2 };
+    said(of(len, encoding, 0, 0))
 }

@@ -1,7 +1,6 @@
 // Requests over the crate facts.
 use bench_records::values::*;
 use bench_words::answer::*;
-use bench_words::read::*;
 use bench_words::*;
 use facts::DeviceInfo;
 use facts::eeprom;
@@ -10,10 +9,10 @@ use facts::source::Source;
 pub fn ask(verb: usize, n: Numbers) -> Answer {
     let info = info_of(n.a, n.b);
     match verb {
-        21 => one(form::KIND, kind(info.device_kind())),
+        21 => number(kind(info.device_kind())),
         22 => number(info.supports_dirac() as u32),
         23 => sources(info),
-        24 => one(form::SOURCE, source(Source::from_id(byte(n.c), info))),
+        24 => number(source(Source::from_id(byte(n.c), info))),
         25 => number(source_of(n.c).to_id(info) as u32),
         _ => addresses(),
     }
@@ -32,14 +31,12 @@ pub fn info_of(hw_id: u32, dsp_version: u32) -> DeviceInfo {
 // Each source of a device and its number; the first that is not there has no name.
 fn sources(info: DeviceInfo) -> Answer {
     let mapping = Source::mapping(info);
-    let mut numbers = [0u32; MOST_NUMBERS];
+    let answer = said(NO_NUMBERS);
+    let mut numbers = answer.numbers;
     let mut i = 0;
     while i < 7 {
         if mapping.count <= i {
-            return Answer {
-                form: form::SOURCES,
-                numbers,
-            };
+            break;
         }
         let entry = mapping.entries[i];
         let of_entry = entry.source;
@@ -47,35 +44,23 @@ fn sources(info: DeviceInfo) -> Answer {
         numbers[2 * i + 1] = entry.id as u32;
         i += 1;
     }
-    Answer {
-        form: form::SOURCES,
-        numbers,
-    }
+    Answer { numbers, ..answer }
 }
 
 fn addresses() -> Answer {
-    let all = [
-        eeprom::FIRMWARE_VERSION as u32,
-        eeprom::TIMESTAMP as u32,
-        eeprom::TIMESTAMP_2X4 as u32,
-        eeprom::PRESET as u32,
-        eeprom::SOURCE as u32,
-        eeprom::SOURCE_ASYNC as u32,
-        eeprom::MASTER_VOLUME as u32,
-        eeprom::MUTE as u32,
-        eeprom::DIRAC_BYPASS as u32,
-        eeprom::CHANNEL_MODE as u32,
-        eeprom::SERIAL as u32,
-        eeprom::SERIAL_SHORT as u32,
-    ];
-    let mut numbers = [0u32; MOST_NUMBERS];
-    let mut i = 0;
-    while i < 12 {
-        numbers[i] = all[i];
-        i += 1;
-    }
-    Answer {
-        form: form::EEPROM,
-        numbers,
-    }
+    let mut answer = said(Numbers {
+        a: eeprom::FIRMWARE_VERSION as u32,
+        b: eeprom::TIMESTAMP as u32,
+        c: eeprom::TIMESTAMP_2X4 as u32,
+        d: eeprom::PRESET as u32,
+        e: eeprom::SOURCE as u32,
+        f: eeprom::SOURCE_ASYNC as u32,
+        g: eeprom::MASTER_VOLUME as u32,
+    });
+    answer.numbers[7] = eeprom::MUTE as u32;
+    answer.numbers[8] = eeprom::DIRAC_BYPASS as u32;
+    answer.numbers[9] = eeprom::CHANNEL_MODE as u32;
+    answer.numbers[10] = eeprom::SERIAL as u32;
+    answer.numbers[11] = eeprom::SERIAL_SHORT as u32;
+    answer
 }

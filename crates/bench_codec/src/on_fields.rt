@@ -2,36 +2,27 @@
 use bench_records::values::*;
 use bench_words::answer::*;
 use bench_words::*;
-use fields::addr::Addr;
-use fields::addr::ReadAddr;
-use fields::value::ReadValue;
-use fields::value::Value;
+use fields::addr::*;
+use fields::value::*;
 
 pub fn ask(verb: usize, n: Numbers, bytes: &[u8], out: &mut [u8]) -> Answer {
     match verb {
-        10 => read_addr(Addr::read(head(bytes, n.b), byte(n.a))),
+        10 => match Addr::read(head(bytes, n.b), byte(n.a)) {
+            ReadAddr::Is(addr) => of_addr(addr),
+            ReadAddr::Refused(number) => refused(number),
+        },
         11 => read_value(Value::from_bytes(head(bytes, n.a), place(n.b, n.c))),
         12 => written(addr_of(n.b, n.c, n.d).write(out)),
         _ => written(value_of(n.c, n.d, n.e).into_bytes(head(bytes, n.a), out)),
     }
 }
 
-fn read_addr(read: ReadAddr) -> Answer {
-    match read {
-        ReadAddr::Is(addr) => of_addr(addr),
-        ReadAddr::Refused(number) => refused(number),
-    }
-}
-
 pub fn of_addr(addr: Addr) -> Answer {
-    fill(
-        form::ADDRESS,
-        of(addr.len as u32, addr.extra_bit as u32, addr.val, 0),
-    )
+    said(of(addr.len as u32, addr.extra_bit as u32, addr.val, 0))
 }
 
 pub fn of_value(one: Value) -> Answer {
-    fill(form::VALUE, value(one))
+    said(value(one))
 }
 
 pub fn read_value(read: ReadValue) -> Answer {

@@ -7,24 +7,20 @@ mod look;
 mod make;
 pub mod state;
 
-use crate::state::Asked;
-use crate::state::State;
-use crate::state::held;
-use crate::state::same;
-use crate::state::with_tally;
+use crate::state::*;
 use bench_records::records::*;
 use bench_words::answer::*;
 use bench_words::*;
-use device::execute;
-use device::execute::Executed;
+use commands::Commands;
+use device::execute::*;
 use octets::Done;
 use octets::Written;
 use octets::refusal;
 use processor::Device;
-use processor::eeprom as memory;
-use saves::replay;
-use saves::save;
-use streams::judge;
+use processor::eeprom::*;
+use saves::replay::replay;
+use saves::save::save;
+use streams::judge::judge;
 use streams::shape::Judged;
 use tally::Tally;
 use tally::receive::receive_lending;
@@ -55,10 +51,11 @@ pub fn ask(
     if settings.len() < s {
         return same(refused(refusal::OUTSIDE), state);
     }
+    let out = &mut lent[0..room];
     asked(
         words,
         bytes,
-        &mut lent[0..room],
+        out,
         state,
         &mut eeprom[0..e],
         &mut settings[0..s],
@@ -90,14 +87,6 @@ fn asked(
     }
 }
 
-// The first n bytes of a memory, or all of it.
-fn front(memory: &mut [u8], n: usize) -> &mut [u8] {
-    if memory.len() < n {
-        return memory;
-    }
-    &mut memory[0..n]
-}
-
 // Requests that change what is held beside the memories.
 fn changed(
     words: Words,
@@ -108,25 +97,31 @@ fn changed(
     settings: &mut [u32],
 ) -> Asked {
     let n = words.from(0);
+    let zeroed = Tally::zeroed();
+    let tally = state.tally;
     let verb = words.verb;
     match verb {
-        1 => same(plain(form::DONE), lending(state, n.a, n.b)),
+        1 => same(said(NO_NUMBERS), lending(state, n.a, n.b)),
         2 => make::bare(n, state, eeprom, settings),
         3 => make::new(n, head(bytes, n.e), state, eeprom, settings),
         4 => send(head(bytes, n.a), out, state, eeprom, settings),
-        5 => same(counts(state), state),
-        _ => same(plain(form::DONE), with_tally(state, Tally::zeroed())),
+        5 => same(said(of(tally.accepted, tally.refused, 0, 0)), state),
+        _ => same(
+            said(NO_NUMBERS),
+            State {
+                tally: zeroed,
+                ..state
+            },
+        ),
     }
 }
 
 fn lending(state: State, eeprom: u32, settings: u32) -> State {
-    held(
-        eeprom as usize,
-        settings as usize,
-        state.kept,
-        state.device,
-        state.tally,
-    )
+    State {
+        eeprom: eeprom as usize,
+        settings: settings as usize,
+        ..state
+    }
 }
 
 fn send(
@@ -140,52 +135,28 @@ fn send(
     let before = state.tally;
     let counted = receive_lending(before, device, frame, eeprom, settings, out);
     let answer = counted.answer;
-    let after = counted.tally;
-    same(written(answer), with_tally(state, after))
-}
-
-fn counts(state: State) -> Answer {
-    let tally = state.tally;
-    fill(form::TALLY, of(tally.accepted, tally.refused, 0, 0))
+    let tally = counted.tally;
+    same(written(answer), State { tally, ..state })
 }
 
 // A save that is refused leaves the one that is kept.
 fn keep(words: Words, state: State, eeprom: &[u8], settings: &[u32], kept: &mut [u8]) -> Asked {
     let n = words.from(0);
-    match save::save(eeprom, settings, front(kept, n.a as usize)) {
-        Written::Bytes(n) => same(
-            number(low(n)),
-            held(state.eeprom, state.settings, n, state.device, state.tally),
-        ),
+    match save(eeprom, settings, front(kept, n.a as usize)) {
+        Written::Bytes(n) => same(number(low(n)), State { kept: n, ..state }),
         Written::Refused(k) => same(refused(k), state),
     }
 }
 
-// Requests over a save, that of the request or the one that is kept.
-fn on_save(
-    verb: usize,
-    n: Numbers,
-    saved: &[u8],
-    out: &mut [u8],
-    eeprom: &mut [u8],
-    settings: &mut [u32],
-) -> Answer {
-    match verb {
-        19 => look::peek(octets::part(saved, place(n.a, n.b)), out),
-        20 | 21 => done(replay::replay(eeprom, settings, saved)),
-        22 => judged(judge::judge(saved)),
-        _ => written(listed::list(saved, out)),
+// The first n bytes of a memory, or all of it.
+fn front(memory: &mut [u8], n: usize) -> &mut [u8] {
+    if memory.len() < n {
+        return memory;
     }
+    &mut memory[0..n]
 }
 
-fn judged(judged: Judged) -> Answer {
-    match judged {
-        Judged::Sound(shape) => fill(form::PAIR, of(low(shape.eeprom), low(shape.settings), 0, 0)),
-        Judged::Refused(number) => refused(number),
-    }
-}
-
-// Requests over the device and its memories.
+// Requests over the device and its memories, and over a save: that of the request or the one that is kept.
 fn call(
     words: Words,
     bytes: &[u8],
@@ -196,56 +167,57 @@ fn call(
     settings: &mut [u32],
 ) -> Answer {
     let n = words.from(0);
+    let held = head(bytes, n.a);
+    let command = command_of(words.from(2));
     let verb = words.verb;
     match verb {
-        7 => executed(device, words, head(bytes, n.a), eeprom, settings, out),
-        8 => written(execute::execute_into(
-            device,
-            command_of(words.from(2)),
-            head(bytes, n.a),
-            eeprom,
-            settings,
-            out,
-        )),
+        7 => executed(device, command, held, eeprom, settings, out),
+        8 => written(execute_into(device, command, held, eeprom, settings, out)),
         9 => look::peek(octets::part(&eeprom[..], place(n.a, n.b)), out),
-        10 => look::peek_words(place(n.a, n.b), &settings[..], out),
+        10 => look::peek_words(n.a, &settings[..], out),
         11 => look::digest(&eeprom[..], &settings[..]),
-        17 => written(save::save(&eeprom[..], &settings[..], out)),
-        19 | 20 | 24 => on_save(verb, n, saved, out, eeprom, settings),
-        21..=23 => on_save(verb, n, head(bytes, n.a), out, eeprom, settings),
+        17 => written(save(&eeprom[..], &settings[..], out)),
+        19 => look::peek(octets::part(saved, place(n.a, n.b)), out),
+        20 => done(replay(eeprom, settings, saved)),
+        21 => done(replay(eeprom, settings, held)),
+        22 => match judge(held) {
+            Judged::Sound(shape) => said(of(low(shape.eeprom), low(shape.settings), 0, 0)),
+            Judged::Refused(number) => refused(number),
+        },
+        23 => written(listed::list(held, out)),
+        24 => written(listed::list(saved, out)),
         _ => done(write(verb, n, eeprom)),
     }
 }
 
 fn write(verb: usize, n: Numbers, eeprom: &mut [u8]) -> Done {
     match verb {
-        12 => memory::write_eeprom_u8(half(n.a), byte(n.b), eeprom),
-        13 => memory::write_eeprom_u16(half(n.a), half(n.b), eeprom),
-        14 => memory::write_eeprom_u32(half(n.a), n.b, eeprom),
-        15 => memory::set_serial(n.a, eeprom),
-        _ => memory::set_timestamp(n.a, eeprom),
+        12 => write_eeprom_u8(half(n.a), byte(n.b), eeprom),
+        13 => write_eeprom_u16(half(n.a), half(n.b), eeprom),
+        14 => write_eeprom_u32(half(n.a), n.b, eeprom),
+        15 => set_serial(n.a, eeprom),
+        _ => set_timestamp(n.a, eeprom),
     }
-}
-
-fn put_all(data: &[u8; 1020], out: &mut [u8]) {
-    octets::put(data, out);
 }
 
 // The answer's payload goes to the start of the output.
 fn executed(
     device: Device,
-    words: Words,
+    command: Commands,
     payload: &[u8],
     eeprom: &mut [u8],
     settings: &mut [u32],
     out: &mut [u8],
 ) -> Answer {
     let mut data = [0xeeu8; 1020];
-    let command = command_of(words.from(1));
-    let executed = execute::execute(device, command, payload, eeprom, settings, &mut data);
+    let executed = execute(device, command, payload, eeprom, settings, &mut data);
     put_all(&data, out);
     match executed {
-        Executed::Response(one) => response(form::EXECUTED, one),
+        Executed::Response(one) => response(one),
         Executed::Refused(number) => refused(number),
     }
+}
+
+fn put_all(data: &[u8; 1020], out: &mut [u8]) {
+    octets::put(data, out);
 }

@@ -1,61 +1,33 @@
 // What stands in the memories and in a save.
 use bench_words::answer::*;
 use bench_words::*;
-use octets::Place;
 use octets::number::big_bytes32;
 
 // Bytes, put at the start of the output.
 pub fn peek(part: &[u8], out: &mut [u8]) -> Answer {
     octets::put(part, out);
-    one(form::FIRST_BYTES, low(part.len()))
+    number(low(part.len()))
 }
 
-// The words at a place, so far as there are any, put there as their bytes.
-pub fn peek_words(place: Place, settings: &[u32], out: &mut [u8]) -> Answer {
-    one(
-        form::FIRST_WORDS,
-        low(put_each(words_at(place, settings), out)),
-    )
-}
-
-fn words_at(place: Place, settings: &[u32]) -> &[u32] {
-    let start = place.start;
-    if settings.len() <= start {
-        return &settings[0..0];
-    }
-    if settings.len() - start < place.len {
-        return &settings[start..];
-    }
-    let end = start + place.len;
-    &settings[start..end]
-}
-
-fn put_each(words: &[u32], out: &mut [u8]) -> usize {
+// The words from a place on, so far as there are any, put there as their bytes.
+pub fn peek_words(start: u32, settings: &[u32], out: &mut [u8]) -> Answer {
     let mut i = 0;
-    while i < words.len() {
-        if out.len() / 4 <= i {
-            return i;
+    while i < out.len() / 4 {
+        let at = start as usize + i;
+        if settings.len() <= at {
+            break;
         }
-        octets::put(&big_bytes32(words[i]), &mut out[4 * i..]);
+        octets::put(&big_bytes32(settings[at]), &mut out[4 * i..]);
         i += 1;
     }
-    i
+    number(low(i))
 }
 
 // How much of each memory is lent, and a number that depends on what stands at each place.
 pub fn digest(eeprom: &[u8], settings: &[u32]) -> Answer {
-    fill(
-        form::DIGEST,
-        Numbers {
-            a: low(eeprom.len()),
-            b: digest_bytes(eeprom),
-            c: low(settings.len()),
-            d: digest_words(settings),
-            e: 0,
-            f: 0,
-            g: 0,
-        },
-    )
+    let bytes = digest_bytes(eeprom);
+    let words = digest_words(settings);
+    said(of(low(eeprom.len()), bytes, low(settings.len()), words))
 }
 
 fn digest_bytes(eeprom: &[u8]) -> u32 {

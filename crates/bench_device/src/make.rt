@@ -1,10 +1,7 @@
 // Making a device on what is lent.
 ghost use Prim.Native.Nat.{_≤_};
 ghost use lib.ListN.{length};
-use crate::state::Asked;
-use crate::state::State;
-use crate::state::held;
-use crate::state::same;
+use crate::state::*;
 use bench_records::values::*;
 use bench_words::answer::*;
 use bench_words::*;
@@ -17,17 +14,9 @@ use processor::create::Made;
 const METERS: usize = 512;
 
 pub fn bare(n: Numbers, state: State, eeprom: &mut [u8], settings: &mut [u32]) -> Asked {
-    made(
-        create::bare(
-            byte(n.a),
-            byte(n.b),
-            kind_of(n.c),
-            half(n.d),
-            eeprom,
-            settings,
-        ),
-        state,
-    )
+    let of_kind = kind_of(n.c);
+    let made = create::bare(byte(n.a), byte(n.b), of_kind, half(n.d), eeprom, settings);
+    of_made(made, state)
 }
 
 pub fn new(
@@ -39,16 +28,11 @@ pub fn new(
 ) -> Asked {
     let mut meters = [0u16; METERS];
     let count = meters_of(bytes, &mut meters);
-    made(
-        create::new(
-            byte(n.a),
-            byte(n.b),
-            kind_of(n.c),
-            half(n.d),
-            &meters[0..count],
-            eeprom,
-            settings,
-        ),
+    let of_kind = kind_of(n.c);
+    let taps = half(n.d);
+    let all = &meters[0..count];
+    of_made(
+        create::new(byte(n.a), byte(n.b), of_kind, taps, all, eeprom, settings),
         state,
     )
 }
@@ -68,34 +52,22 @@ fn meters_of(bytes: &[u8], meters: &mut [u16]) -> usize
     i
 }
 
-fn made(made: Made, state: State) -> Asked {
+fn of_made(made: Made, state: State) -> Asked {
     match made {
-        Made::Is(device) => same(
-            of_device(device),
-            held(
-                state.eeprom,
-                state.settings,
-                state.kept,
-                device,
-                state.tally,
-            ),
-        ),
+        Made::Is(device) => same(of_device(device), State { device, ..state }),
         Made::Refused(number) => same(refused(number), state),
     }
 }
 
 fn of_device(device: Device) -> Answer {
     let of_kind = device.kind;
-    fill(
-        form::DEVICE,
-        Numbers {
-            a: device.hw_id as u32,
-            b: device.dsp_version as u32,
-            c: device.fw_major as u32,
-            d: device.fw_minor as u32,
-            e: kind(of_kind),
-            f: device.fir_max_taps as u32,
-            g: 0,
-        },
-    )
+    said(Numbers {
+        a: device.hw_id as u32,
+        b: device.dsp_version as u32,
+        c: device.fw_major as u32,
+        d: device.fw_minor as u32,
+        e: kind(of_kind),
+        f: device.fir_max_taps as u32,
+        g: 0,
+    })
 }

@@ -19,8 +19,13 @@ pub struct Asked {
     pub state: State,
 }
 
+pub fn same(answer: Answer, state: State) -> Asked {
+    Asked { answer, state }
+}
+
 // A bare device on no memory.
 pub fn first() -> State {
+    let tally = Tally::zeroed();
     let device = Device {
         hw_id: 0,
         dsp_version: 0,
@@ -29,29 +34,11 @@ pub fn first() -> State {
         kind: DeviceKind::Generic,
         fir_max_taps: 0,
     };
-    held(0, 0, 0, device, Tally::zeroed())
-}
-
-pub fn held(eeprom: usize, settings: usize, kept: usize, device: Device, tally: Tally) -> State {
     State {
-        eeprom,
-        settings,
-        kept,
+        eeprom: 0,
+        settings: 0,
+        kept: 0,
         device,
         tally,
     }
-}
-
-pub fn with_tally(state: State, tally: Tally) -> State {
-    held(
-        state.eeprom,
-        state.settings,
-        state.kept,
-        state.device,
-        tally,
-    )
-}
-
-pub fn same(answer: Answer, state: State) -> Asked {
-    Asked { answer, state }
 }

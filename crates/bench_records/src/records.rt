@@ -9,10 +9,8 @@ use commands::FirData;
 use commands::Mux;
 use facts::HardwareId;
 use fields::addr::Addr;
-use fields::value::Coefficient;
-use fields::value::Value;
-use numbers::float::from_bits;
-use numbers::float::to_bits;
+use fields::value::*;
+use numbers::float::*;
 use numbers::gain::Gain;
 use responses::Responses;
 use views::floats::FloatView;
@@ -22,57 +20,49 @@ use views::memory::MemoryView;
 const VALUE_AT: usize = 4;
 
 pub fn command_of(n: Numbers) -> Commands {
+    let addr = half(n.b);
+    let index = byte(n.b);
+    let len = byte(n.c);
+    let payload = place(n.b, n.c);
+    let data = place(n.c, n.d);
     let kind = n.a;
     match kind {
         1 => ReadHardwareId,
         2 => FirLoadEnd,
-        3..=9 => with_place(n),
+        3 => ReadFloats { addr, len },
+        4 => ReadMemory { addr, size: len },
+        5 => WriteMemory { addr, data },
+        6 => FirLoadData {
+            index,
+            data: FirData {
+                start: data.start,
+                count: data.len,
+            },
+        },
+        7 => Unknown {
+            cmd_id: index,
+            payload: data,
+        },
+        8 => BulkLoad { payload },
+        9 => BulkLoadFilterData { payload },
         10..=16 => with_bytes(n),
         _ => with_address(n),
     }
 }
 
-fn with_place(n: Numbers) -> Commands {
-    let addr = half(n.b);
-    let payload = place(n.b, n.c);
-    let data = place(n.c, n.d);
-    let kind = n.a;
-    match kind {
-        3 => ReadFloats {
-            addr,
-            len: byte(n.c),
-        },
-        4 => ReadMemory {
-            addr,
-            size: byte(n.c),
-        },
-        5 => WriteMemory { addr, data },
-        6 => FirLoadData {
-            index: byte(n.b),
-            data: fir_data(n.c, n.d),
-        },
-        7 => Unknown {
-            cmd_id: byte(n.b),
-            payload: data,
-        },
-        8 => BulkLoad { payload },
-        _ => BulkLoadFilterData { payload },
-    }
-}
-
 fn with_bytes(n: Numbers) -> Commands {
     let first = byte(n.b);
+    let reset = n.c == 1;
+    let gain = Gain(from_bits(n.b));
     let kind = n.a;
     match kind {
         10 => SetConfig {
             config: first,
-            reset: n.c == 1,
+            reset,
         },
         11 => SetSource { source: first },
         12 => SetMute { value: n.b == 1 },
-        13 => SetVolume {
-            value: Gain(from_bits(n.b)),
-        },
+        13 => SetVolume { value: gain },
         14 => FirLoadStart { index: first },
         15 => DiracBypass { value: first },
         _ => Unk07 { payload: first },
@@ -81,36 +71,21 @@ fn with_bytes(n: Numbers) -> Commands {
 
 fn with_address(n: Numbers) -> Commands {
     let addr = addr_of(n.b, n.c, n.d);
-    let first = byte(n.e);
+    let len = byte(n.e);
+    let on = n.e == 1;
+    let value = value_of(n.e, n.f, n.g);
     let kind = n.a;
     match kind {
-        17 => WriteBiquadBypass {
+        17 => WriteBiquadBypass { addr, value: on },
+        18 => Read { addr, len },
+        19 => SwitchMux(Mux {
             addr,
-            value: n.e == 1,
-        },
-        18 => Read { addr, len: first },
-        19 => SwitchMux(mux_of(addr, n)),
-        20 => Write {
-            addr,
-            value: value_of(n.e, n.f, n.g),
-        },
+            max: len,
+            arg: n.f == 1,
+            slot: byte(n.g),
+        }),
+        20 => Write { addr, value },
         _ => WriteBiquad { addr },
-    }
-}
-
-fn fir_data(start: u32, count: u32) -> FirData {
-    FirData {
-        start: start as usize,
-        count: count as usize,
-    }
-}
-
-fn mux_of(addr: Addr, n: Numbers) -> Mux {
-    Mux {
-        addr,
-        max: byte(n.e),
-        arg: n.f == 1,
-        slot: byte(n.g),
     }
 }
 
@@ -132,7 +107,7 @@ pub fn five_of(numbers: [u32; MOST_NUMBERS]) -> [Coefficient; 5] {
 }
 
 pub fn command(command: Commands, five: [Coefficient; 5]) -> Answer {
-    let short = fill(form::COMMAND, command_numbers(command));
+    let short = said(command_numbers(command));
     match command {
         WriteBiquad { addr: _ } => with_five(short, five),
         _ => short,
@@ -140,22 +115,19 @@ pub fn command(command: Commands, five: [Coefficient; 5]) -> Answer {
 }
 
 fn with_five(short: Answer, five: [Coefficient; 5]) -> Answer {
-    let mut all = short.numbers;
+    let mut numbers = short.numbers;
     let mut i = 0;
     while i < 5 {
         let coefficient = five[i];
         let one = coefficient.value;
         let n = value(one);
         let at = VALUE_AT + 3 * i;
-        all[at] = n.a;
-        all[at + 1] = n.b;
-        all[at + 2] = n.c;
+        numbers[at] = n.a;
+        numbers[at + 1] = n.b;
+        numbers[at + 2] = n.c;
         i += 1;
     }
-    Answer {
-        form: short.form,
-        numbers: all,
-    }
+    Answer { numbers, ..short }
 }
 
 fn command_numbers(command: Commands) -> Numbers {
@@ -187,20 +159,17 @@ fn command_numbers(command: Commands) -> Numbers {
             )
         }
         Write { addr, value: one } => of_addr(20, addr, value(one)),
-        WriteBiquad { addr } => of_addr(21, addr, of(0, 0, 0, 0)),
+        WriteBiquad { addr } => of_addr(21, addr, NO_NUMBERS),
     }
 }
 
 // A kind, an address, and three numbers behind it.
 fn of_addr(kind: u32, addr: Addr, n: Numbers) -> Numbers {
     Numbers {
-        a: kind,
-        b: addr.len as u32,
-        c: addr.extra_bit as u32,
-        d: addr.val,
         e: n.a,
         f: n.b,
         g: n.c,
+        ..of(kind, addr.len as u32, addr.extra_bit as u32, addr.val)
     }
 }
 
@@ -216,20 +185,16 @@ pub fn response_of(n: Numbers) -> Responses {
             cmd_id: byte(n.b),
             payload: place(n.c, n.d),
         },
-        7 => Responses::HardwareId(id_of(n)),
+        7 => Responses::HardwareId(HardwareId {
+            fw_major: byte(n.b),
+            fw_minor: byte(n.c),
+            hw_id: byte(n.d),
+        }),
         8 => Responses::FirLoadSize { size: half(n.b) },
         _ => Responses::Read {
             addr: addr_of(n.b, n.c, n.d),
             data: values_of(n.e, n.f, n.g),
         },
-    }
-}
-
-fn id_of(n: Numbers) -> HardwareId {
-    HardwareId {
-        fw_major: byte(n.b),
-        fw_minor: byte(n.c),
-        hw_id: byte(n.d),
     }
 }
 
@@ -248,17 +213,15 @@ pub fn floats_of(base: u32, start: u32, count: u32) -> FloatView {
     }
 }
 
-// A response; behind it the place of a Read's chunks, or the length of its payload.
-pub fn response(form: usize, response: Responses) -> Answer {
+// A response; behind it the values of a Read's chunks, or the length of its payload.
+pub fn response(response: Responses) -> Answer {
     let n = response_numbers(response);
-    let short = fill(form, n);
-    if n.a != 9 || n.e != 6 {
-        return short;
+    let mut answer = said(n);
+    if n.a == 9 && n.e == 6 {
+        let values = place(n.f, n.g);
+        answer.values = values;
     }
-    let mut numbers = short.numbers;
-    numbers[7] = n.f;
-    numbers[8] = n.g;
-    Answer { form, numbers }
+    answer
 }
 
 fn response_numbers(response: Responses) -> Numbers {
@@ -270,13 +233,10 @@ fn response_numbers(response: Responses) -> Numbers {
             let data = view.data;
             of_view(4, view.base, data.start, data.len, data.len)
         }
-        Responses::FloatData(view) => of_view(
-            5,
-            view.base,
-            view.start,
-            view.count,
-            floats_length(view.count),
-        ),
+        Responses::FloatData(view) => {
+            let bytes = floats_length(view.count);
+            of_view(5, view.base, view.start, view.count, bytes)
+        }
         Responses::Unknown { cmd_id, payload } => {
             of(6, cmd_id as u32, low(payload.start), low(payload.len))
         }
@@ -288,13 +248,8 @@ fn response_numbers(response: Responses) -> Numbers {
 
 fn of_view(kind: u32, base: u16, start: usize, count: usize, bytes: usize) -> Numbers {
     Numbers {
-        a: kind,
-        b: base as u32,
-        c: low(start),
-        d: low(count),
         e: low(bytes),
-        f: 0,
-        g: 0,
+        ..of(kind, base as u32, low(start), low(count))
     }
 }
 

@@ -5,11 +5,9 @@ use facts::probe::DeviceKind::*;
 use facts::source::Source;
 use facts::source::Source::*;
 use fields::addr::Addr;
-use fields::value::Coefficient;
 use fields::value::Value;
 use numbers::fixed_point::FixedPoint;
-use numbers::float::from_bits;
-use numbers::float::to_bits;
+use numbers::float::*;
 use octets::Place;
 use responses::Values;
 

@@ -1,7 +1,6 @@
 // The words of the bench: one table of its verbs and names, and what is read and answered by it.
 // Every number that it has is of 32 bits.
 pub mod answer;
-pub mod form;
 pub mod read;
 pub mod table;
 
@@ -20,15 +19,23 @@ pub struct Numbers {
     pub g: u32,
 }
 
+pub const NO_NUMBERS: Numbers = Numbers {
+    a: 0,
+    b: 0,
+    c: 0,
+    d: 0,
+    e: 0,
+    f: 0,
+    g: 0,
+};
+
 pub fn of(a: u32, b: u32, c: u32, d: u32) -> Numbers {
     Numbers {
         a,
         b,
         c,
         d,
-        e: 0,
-        f: 0,
-        g: 0,
+        ..NO_NUMBERS
     }
 }
 

@@ -5,13 +5,7 @@ use Rattle.bench_device.proofs.ask.Statement.{statement}
 use Rattle.bench_device.proofs.ask.Tie as tie
 
 returns-4 : tie.Need-returns-4
-returns-4 c =
-    let a = c .before .before .before .before .before .before .before .before .before .before .before .before .before .before .before .before .before .before .before .before .before .args in
-    let left = c .before .before .before .before .before .before .before .before .asked .last in (
-      behind-cut (a .lent .now) (left .1 .1 .0) (a .words .room) (search needs),
-      behind-cut (a .eeprom .now) (left .1 .1 .1 .1 .0) (a .state .eeprom) (search needs),
-      behind-cut (a .settings .now) (left .1 .1 .1 .1 .1 .0) (a .state .settings) (search needs),
-    )
+returns-4 c = let a = c .before .before .before .before .before .before .before .before .before .before .before .before .before .before .before .before .before .before .before .before .before .args in let left = c .before .before .before .before .before .before .before .before .asked .last in (behind-cut (a .lent .now) (left .1 .1 .0) (a .words .room) (search needs), behind-cut (a .eeprom .now) (left .1 .1 .1 .1 .0) (a .state .eeprom) (search needs), behind-cut (a .settings .now) (left .1 .1 .1 .1 .1 .0) (a .state .settings) (search needs))
 
 pub ask-spec : {M : Type 1} → statement M
 ask-spec =

@@ -7,10 +7,10 @@ use Rattle.bench_codec.proofs.on_facts.sources.Statement.{statement}
 use Rattle.bench_codec.proofs.on_facts.sources.Tie as tie
 
 abbrev Inv-loop : tie.InvT-loop
-Inv-loop mapping numbers₀ i₀ numbers i = (i ≤ 7) × (length numbers ≡ 32)
+Inv-loop mapping answer numbers₀ i₀ numbers i = (i ≤ 7) × (length numbers ≡ 32)
 
 abbrev μ-loop : tie.MeasureT-loop
-μ-loop mapping numbers₀ i₀ numbers i = 7 - i
+μ-loop mapping answer numbers₀ i₀ numbers i = 7 - i
 
 loop-again : tie.Need-loop-again Inv-loop μ-loop
 loop-again c = simp length-set (search needs)
@@ -22,7 +22,7 @@ sources-spec =
     Inv-loop
     μ-loop
     (λ c κs. search needs)
-    (λ c. search needs)
+    (λ c κs. search needs)
     (λ c. search needs)
     (λ c. search needs)
     (λ c. search needs)

@@ -7,10 +7,10 @@ use Rattle.bench_records.proofs.records.with_five.Statement.{statement}
 use Rattle.bench_records.proofs.records.with_five.Tie as tie
 
 abbrev Inv-loop : tie.InvT-loop
-Inv-loop short five all₀ i₀ all i = (i ≤ 5) × (length all ≡ 32) × (length five ≡ 5)
+Inv-loop short five numbers₀ i₀ numbers i = (i ≤ 5) × (length numbers ≡ 32) × (length five ≡ 5)
 
 abbrev μ-loop : tie.MeasureT-loop
-μ-loop short five all₀ i₀ all i = 5 - i
+μ-loop short five numbers₀ i₀ numbers i = 5 - i
 
 loop-again : tie.Need-loop-again Inv-loop μ-loop
 loop-again c = simp length-set (search needs)

@@ -1,15 +1,15 @@
--- Each row before takes a byte at least.
-use Prim.Native.Nat.{ℕ, _+_, _-_, _≤_}
+-- Each turn counts one name at most.
+use Prim.Native.Nat.{ℕ, _+_, _≤_}
 use lib.ListN.{length}
 use borrow.Author.Needs.{needs}
 use Rattle.bench_words.proofs.table.find.Statement.{statement}
 use Rattle.bench_words.proofs.table.find.Tie as tie
 
 abbrev Inv-loop : tie.InvT-loop
-Inv-loop table list number name count₀ at₀ count at = (count ≤ at) × (at ≤ length table + 1)
+Inv-loop table list number name row₀ start₀ count₀ turns₀ row start count turns = count + turns ≤ length table
 
 abbrev μ-loop : tie.MeasureT-loop
-μ-loop table list number name count₀ at₀ count at = length table + 1 - at
+μ-loop table list number name row₀ start₀ count₀ turns₀ row start count turns = turns
 
 pub find-spec : {M : Type 1} → statement M
 find-spec =
@@ -21,20 +21,42 @@ find-spec =
     (λ c. search needs)
     (λ c. search needs)
     (λ c. search needs)
+    (λ c. search needs)
+    (λ c. search needs)
+    (λ c κs. search needs)
+    (λ c κs. search needs)
+    (λ c. search needs)
+    (λ c. search needs)
+    (λ c. search needs)
+    (λ c. search needs)
+    (λ c. search needs)
+    (λ c κs. search needs)
+    (λ c. search needs)
+    (λ c. search needs)
+    (λ c. search needs)
+    (λ c κs. search needs)
+    (λ c. search needs)
+    (λ c. search needs)
+    (λ c. search needs)
+    (λ c. search needs)
+    (λ c κs. search needs)
+    (λ c. search needs)
+    (λ c. search needs)
+    (λ c. search needs)
     (λ c κs. search needs)
     (λ c. search needs)
     (λ c. search needs)
     (λ c. search needs)
     (λ c. search needs)
     (λ c. search needs)
+    (λ c. search needs)
     (λ c κs. search needs)
+    (λ c. search needs)
+    (λ c. search needs)
+    (λ c. search needs)
+    (λ c. search needs)
+    (λ c. search needs)
+    (λ c. search needs)
+    (λ c. search needs)
     (λ c κs. search needs)
-    (λ c κs. search needs)
-    (λ c. search needs)
-    (λ c. search needs)
-    (λ c. search needs)
-    (λ c. search needs)
-    (λ c. search needs)
-    (λ c. search needs)
-    (λ c. search needs)
     (λ c. search needs))

@@ -1,19 +1,19 @@
 -- One word more, of four bytes.
-use Prim.Native.Nat.{ℕ, _-_, _≤_}
+use Prim.Native.Nat.{ℕ, _-_, _/_, _≤_}
 use mathlib.Core.Path.{_≡_}
 use lib.ListN.{length}
 use borrow.Author.Needs.{needs}
-use Rattle.bench_device.proofs.look.put_each.Statement.{statement}
-use Rattle.bench_device.proofs.look.put_each.Tie as tie
+use Rattle.bench_device.proofs.look.peek_words.Statement.{statement}
+use Rattle.bench_device.proofs.look.peek_words.Tie as tie
 
 abbrev Inv-loop : tie.InvT-loop
-Inv-loop words out₀ i₀ out i = (i ≤ length words) × (length out ≡ length out₀)
+Inv-loop start settings out₀ i₀ out i = (i ≤ length out / 4) × (length out ≡ length out₀)
 
 abbrev μ-loop : tie.MeasureT-loop
-μ-loop words out₀ i₀ out i = length words - i
+μ-loop start settings out₀ i₀ out i = length out / 4 - i
 
-pub put-each-spec : {M : Type 1} → statement M
-put-each-spec =
+pub peek-words-spec : {M : Type 1} → statement M
+peek-words-spec =
     tie.close
     (tie.spec
     Inv-loop
@@ -22,7 +22,6 @@ put-each-spec =
     (λ c. search needs)
     (λ c. search needs)
     (λ c. search needs)
-    (λ c. search needs)
     (λ c κs. search needs)
     (λ c. search needs)
     (λ c. search needs)
@@ -33,5 +32,7 @@ put-each-spec =
     (λ c. search needs)
     (λ c. search needs)
     (λ c. search needs)
+    (λ c κs. search needs)
+    (λ c κs. search needs)
     (λ c. search needs)
     (λ c. search needs))
