@@ -1,4 +1,5 @@
 // Requests over the crate commands: commands and dialects.
+use crate::on_facts::each;
 use crate::on_fields::*;
 use bench_records::records::*;
 use bench_records::values::*;
@@ -9,7 +10,7 @@ use commands::decode::ReadCommand;
 use commands::dialect::AddrEncoding::*;
 use commands::dialect::Dialect;
 use commands::dialect::FloatEncoding::*;
-use commands::write_int::*;
+use commands::write_ints;
 use numbers::float::from_bits;
 
 pub fn ask(words: Words, n: Numbers, bytes: &[u8], out: &mut [u8]) -> Answer {
@@ -21,7 +22,7 @@ pub fn ask(words: Words, n: Numbers, bytes: &[u8], out: &mut [u8]) -> Answer {
     match verb {
         14 => parsed(payload),
         15 => command(Commands::mute(addr_of(n.a, n.b, n.c), n.d == 1), values),
-        16 => said(of(DISABLED as u32, ENABLED as u32, BYPASSED as u32, 0)),
+        16 => each(&write_ints()),
         17 => written(one.to_bytes(values, payload, out)),
         _ => written(one.to_frame(values, payload, out)),
     }

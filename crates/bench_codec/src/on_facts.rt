@@ -14,7 +14,7 @@ pub fn ask(verb: usize, n: Numbers) -> Answer {
         23 => sources(info),
         24 => number(source(Source::from_id(byte(n.c), info))),
         25 => number(source_of(n.c).to_id(info) as u32),
-        _ => addresses(),
+        _ => each(&eeprom::all()),
     }
 }
 
@@ -47,20 +47,24 @@ fn sources(info: DeviceInfo) -> Answer {
     Answer { numbers, ..answer }
 }
 
-fn addresses() -> Answer {
-    let mut answer = said(Numbers {
-        a: eeprom::FIRMWARE_VERSION as u32,
-        b: eeprom::TIMESTAMP as u32,
-        c: eeprom::TIMESTAMP_2X4 as u32,
-        d: eeprom::PRESET as u32,
-        e: eeprom::SOURCE as u32,
-        f: eeprom::SOURCE_ASYNC as u32,
-        g: eeprom::MASTER_VOLUME as u32,
-    });
-    answer.numbers[7] = eeprom::MUTE as u32;
-    answer.numbers[8] = eeprom::DIRAC_BYPASS as u32;
-    answer.numbers[9] = eeprom::CHANNEL_MODE as u32;
-    answer.numbers[10] = eeprom::SERIAL as u32;
-    answer.numbers[11] = eeprom::SERIAL_SHORT as u32;
-    answer
+// Each number of a list, as far as an answer has numbers.
+pub fn each(all: &[u16]) -> Answer {
+    let answer = said(NO_NUMBERS);
+    let mut numbers = answer.numbers;
+    let mut i = 0;
+    while i < all.len() {
+        if 32 <= i {
+            break;
+        }
+        numbers[i] = nth(all, i) as u32;
+        i += 1;
+    }
+    Answer { numbers, ..answer }
+}
+
+fn nth(all: &[u16], i: usize) -> u16 {
+    if all.len() <= i {
+        return 0;
+    }
+    all[i]
 }
