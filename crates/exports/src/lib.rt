@@ -1,5 +1,5 @@
 // For callers in C or Rust, which lend a pointer and a length for each slice: the numbers, patterns in
-// and patterns out, and a replay. What compare/rust/all and compare/paper/oversize link.
+// and patterns out, and a replay. What compare/rust/all and compare/paper/large link.
 ghost use mathlib.Core.Path.{_≡_};
 ghost use Rattle.numbers.specs.FixedPoint.{codeOf, bitsOfCode};
 ghost use Rattle.processor.specs.Memory.{memory};
