@@ -1,6 +1,7 @@
 // Lines in, answers out, each at once.
 ghost use Prim.Native.Nat.{_+_, _≤_};
 ghost use lib.ListN.{length};
+ghost use mathlib.Core.Path.{_≡_};
 use crate::request::answer;
 use bench_device::state;
 use libc::STDIN_FILENO;
@@ -10,62 +11,49 @@ const TURNS: u64 = 0xffff_ffff_ffff_ffff;
 
 pub fn run(
     input: &mut [u8; 65536],
-    output: &mut [u8; 131072],
     eeprom: &mut [u8; 65537],
     settings: &mut [u32; 65537],
     kept: &mut [u8; 1048576],
 ) {
-    serve(input, output, eeprom, settings, kept);
+    serve(input, eeprom, settings, kept);
 }
 
 // Answers each line of the input. The last one may lack its line end; of one that is too long the
 // start is dropped.
-fn serve(
-    input: &mut [u8],
-    output: &mut [u8],
-    eeprom: &mut [u8],
-    settings: &mut [u32],
-    kept: &mut [u8],
-) {
+fn serve(input: &mut [u8], eeprom: &mut [u8], settings: &mut [u32], kept: &mut [u8]) {
     let mut state = state::first();
-    let mut used = 0;
-    let mut have = 0;
-    let mut long = false;
-    let mut ended = false;
+    let mut lines = Lines {
+        used: 0,
+        have: 0,
+        long: false,
+        ended: false,
+    };
     let mut turns = TURNS;
     while 0 < turns {
         turns -= 1;
+        let used = lines.used;
+        let have = lines.have;
         let end = used + text::until(&input[used..have], b'\n');
-        if end == have && !ended {
-            let more = read_more(input, used, have, long);
-            used = 0;
-            have = more.have;
-            long = more.long;
-            ended = more.ended;
+        if end == have && !lines.ended {
+            lines = read_more(input, lines);
             continue;
         }
-        if used == have && !long {
+        if used == have && !lines.long {
             return;
         }
-        state = answer(
-            &input[used..end],
-            long,
-            state,
-            output,
-            eeprom,
-            settings,
-            kept,
-        );
-        if ended {
+        let line = &input[used..end];
+        state = answer(line, lines.long, state, eeprom, settings, kept);
+        if lines.ended {
             return;
         }
-        long = false;
-        used = behind_line(end, have);
+        lines = behind_line(lines, end);
     }
 }
 
-// How much of the input there is, whether the start of its line is dropped, and whether it has ended.
-struct More {
+// How much of the input is used and how much there is, whether the start of its line is dropped, and
+// whether it has ended.
+struct Lines {
+    used: usize,
     have: usize,
     long: bool,
     ended: bool,
@@ -73,28 +61,34 @@ struct More {
 
 // Reads behind the line that is not ended yet, which goes to the front; where it fills the input, now or
 // before, it is too long.
-fn read_more(input: &mut [u8], used: usize, have: usize, long: bool) -> More
-    requires { ⌜ (used ≤ have) × (have ≤ length (now input)) ⌝ }
-    ensures { λ r. ⌜ r .have ≤ length (now (input .entry)) ⌝ }
+fn read_more(input: &mut [u8], lines: Lines) -> Lines
+    requires { ⌜ (lines .used ≤ lines .have) × (lines .have ≤ length (now input)) ⌝ }
+    ensures { λ r. ⌜ (r .used ≤ r .have) × (r .have ≤ length (now (input .entry))) ⌝ }
 {
-    let dropped = used == 0 && (long || have == input.len());
-    let kept = keep(input, used, have, dropped);
+    let used = lines.used;
+    let have = lines.have;
+    let long = used == 0 && (lines.long || have == input.len());
+    let kept = keep(input, used, have, long);
     let came = read_behind(input, kept);
-    More {
+    Lines {
+        used: 0,
         have: kept + came,
-        long: dropped,
+        long,
         ended: came == 0,
     }
 }
 
-// Where the next line begins, of those that there are.
-fn behind_line(end: usize, have: usize) -> usize
-    ensures { λ r. ⌜ r ≤ have ⌝ }
+// Behind the line that ends there.
+fn behind_line(lines: Lines, end: usize) -> Lines
+    ensures { λ r. ⌜ (r .used ≤ r .have) × (r .have ≡ lines .have) ⌝ }
 {
-    if end < have {
-        return end + 1;
+    let have = lines.have;
+    let used = if end < have { end + 1 } else { have };
+    Lines {
+        used,
+        long: false,
+        ..lines
     }
-    have
 }
 
 // Reads behind the first `have` bytes, and answers how many bytes came.

@@ -6,16 +6,9 @@ mod request;
 
 fn main() {
     let mut input = [0u8; 65536];
-    let mut output = [0u8; 131072];
     // one more than a device takes, so that a memory that is too large can be lent
     let mut eeprom = [0xffu8; 65537];
     let mut settings = [0u32; 65537];
     let mut kept = [0u8; 1048576];
-    console::run(
-        &mut input,
-        &mut output,
-        &mut eeprom,
-        &mut settings,
-        &mut kept,
-    );
+    console::run(&mut input, &mut eeprom, &mut settings, &mut kept);
 }

@@ -8,7 +8,6 @@ pub fn answer(
     line: &[u8],
     long: bool,
     state: State,
-    output: &mut [u8],
     eeprom: &mut [u8],
     settings: &mut [u32],
     kept: &mut [u8],
@@ -16,30 +15,50 @@ pub fn answer(
     if is_remark(line, long) {
         return state;
     }
+    let state = counted(state);
+    if is_bad(line, long) {
+        return state;
+    }
     let mut bytes = [0u8; 2048];
     let mut lent = [0xeeu8; 4096];
+    let mut output = [0u8; 131072];
     let words = read::read(line, &mut bytes);
     answered(
         words,
         state,
         &bytes,
         &mut lent,
-        output,
+        &mut output,
         eeprom,
         settings,
         kept,
     )
 }
 
-// A remark and an empty line are answered by themselves; a line that is too long has lost its start.
+// A remark and an empty line are answered by themselves.
 fn is_remark(line: &[u8], long: bool) -> bool {
     if long {
-        io::write_all(STDOUT_FILENO, b"bad line: too long\n");
-        return true;
+        return false;
     }
     if line.len() == 0 || line[0] == b'#' {
         io::write_all(STDOUT_FILENO, line);
         io::write_all(STDOUT_FILENO, b"\n");
+        return true;
+    }
+    false
+}
+
+// A line that is too long has lost its start.
+fn is_bad(line: &[u8], long: bool) -> bool {
+    if long {
+        io::write_all(STDOUT_FILENO, b"bad line: too long\n");
+        return true;
+    }
+    if line.len() == 0 {
+        return false;
+    }
+    if line[line.len() - 1] == b'\r' {
+        io::write_all(STDOUT_FILENO, b"bad line: ends in CR\n");
         return true;
     }
     false

@@ -4,7 +4,7 @@ ghost use Prim.Native.Nat.{_≤_};
 ghost use lib.ListN.{length};
 use bench_records::values::value;
 use bench_words::answer::*;
-use bench_words::read::MOST_NUMBERS;
+use bench_words::read::*;
 use bench_words::table::*;
 use bench_words::*;
 use fields::value::*;
@@ -163,6 +163,10 @@ fn put_word(letter: u8, n: u32, lent: &[u8], out: &mut [u8], at: usize) -> usize
         b'y' => pairs(head(lent, n), out, at),
         b'q' => words(n, lent, out, at),
         b'o' | b'f' => known(letter, n, out, at),
+        b':' => colon(decimal(n, out, at), out),
+        b'e' => expected(byte(n), out, at),
+        b'i' => meaning(n as usize, out, at),
+        b'v' => help(n as usize, out, at),
         _ => decimal(n, out, at),
     }
 }
@@ -181,6 +185,86 @@ fn known(letter: u8, n: u32, out: &mut [u8], at: usize) -> usize {
         return say(&text::hex8(n - 1), out, at);
     }
     decimal(n - 1, out, at)
+}
+
+// A colon in place of the last space.
+fn colon(end: usize, out: &mut [u8]) -> usize {
+    if end == 0 {
+        return 0;
+    }
+    say(b":", out, end - 1)
+}
+
+// What a word of this letter is.
+fn expected(letter: u8, out: &mut [u8], at: usize) -> usize {
+    let row = find(&TABLE, b'e', 0, &[letter]);
+    say(text_at(&TABLE, row.words), out, at)
+}
+
+// What a refusal of this number means.
+fn meaning(number: usize, out: &mut [u8], at: usize) -> usize {
+    let row = find(&TABLE, b'i', number, b"");
+    if row.number == 0 {
+        return say(b"none", out, at);
+    }
+    say(text_at(&TABLE, row.words), out, at)
+}
+
+// A verb and its words, and for 0 all verbs.
+fn help(verb: usize, out: &mut [u8], at: usize) -> usize {
+    if verb == 0 {
+        let end = verbs(b'a', out, at);
+        return verbs(b'd', out, end);
+    }
+    if verb < DEVICE_VERBS {
+        return letters(find(&TABLE, b'a', verb, b""), out, at);
+    }
+    letters(find(&TABLE, b'd', verb - DEVICE_VERBS, b""), out, at)
+}
+
+fn verbs(list: u8, out: &mut [u8], at: usize) -> usize {
+    let mut end = at;
+    let mut number = 1;
+    while number < DEVICE_VERBS {
+        let row = find(&TABLE, list, number, b"");
+        if row.number == 0 {
+            break;
+        }
+        let name = row.name;
+        end = say(octets::part(&TABLE, name), out, end);
+        number += 1;
+    }
+    end
+}
+
+// A row's name, and what the words behind it are called.
+fn letters(row: Row, out: &mut [u8], at: usize) -> usize {
+    let name = row.name;
+    let mut end = say(octets::part(&TABLE, name), out, at);
+    let mut walk = walk_from(row.words);
+    let mut turns = 0;
+    while turns < MOST_WORDS {
+        walk = walk.next(&TABLE);
+        let word = walk.word;
+        let letter = byte_at(&TABLE, word.start);
+        if letter == b'>' {
+            break;
+        }
+        end = called(letter, out, end);
+        turns += 1;
+    }
+    end
+}
+
+// What a word of this letter is called: its text up to the comma. Without a word it has none.
+fn called(letter: u8, out: &mut [u8], at: usize) -> usize {
+    let row = find(&TABLE, b'e', 0, &[letter]);
+    if row.number == 0 {
+        return at;
+    }
+    let text = text_at(&TABLE, row.words);
+    let end = text::until(text, b',');
+    say(&text[0..end], out, at)
 }
 
 fn say(word: &[u8], out: &mut [u8], at: usize) -> usize {

@@ -23,7 +23,8 @@ pub fn ask(words: Words, bytes: &[u8], lent: &mut [u8]) -> Answer
         return fill(BAD_VERB, NO_NUMBERS);
     }
     if 0 < words.bad {
-        return fill(BAD_ARGUMENT, of(low(words.bad), 0, 0, 0));
+        let expected = words.expected as u32;
+        return fill(BAD_ARGUMENT, of(low(words.bad), expected, 0, 0));
     }
     if lent.len() < room {
         return refused(refusal::NO_ROOM);
@@ -42,6 +43,7 @@ fn asked(words: Words, bytes: &[u8], out: &mut [u8]) -> Answer {
         21..=26 => on_facts::ask(verb, n),
         27..=30 => on_views::ask(verb, n, bytes),
         31..=32 => on_views::join(words, bytes, out),
+        42..=43 => number(n.a),
         _ => on_responses::ask(words, n, bytes, out),
     }
 }

@@ -75,6 +75,8 @@ fn asked(
     let verb = words.verb;
     match verb {
         1..=6 => changed(words, bytes, out, state, eeprom, settings),
+        25 => same(make::held(state), state),
+        26 => same(number(state.requests), state),
         18 => keep(words, state, &eeprom[..], &settings[..], kept),
         _ => {
             let saved = head(&kept[..], low(state.kept));

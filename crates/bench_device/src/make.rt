@@ -59,6 +59,16 @@ fn of_made(made: Made, state: State) -> Asked {
     }
 }
 
+// The device, how much is lent of each memory, and how long the save is that is kept.
+pub fn held(state: State) -> Answer {
+    let device = state.device;
+    let mut answer = of_device(device);
+    answer.numbers[6] = low(state.eeprom);
+    answer.numbers[7] = low(state.settings);
+    answer.numbers[8] = low(state.kept);
+    answer
+}
+
 fn of_device(device: Device) -> Answer {
     let of_kind = device.kind;
     said(Numbers {

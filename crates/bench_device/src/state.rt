@@ -1,5 +1,6 @@
 // What the bench holds between requests beside the two memories and the bytes for a save: how much
-// of each memory it lends, the device, the tally, and how many of the bytes are the save that it keeps.
+// of each memory it lends, how many of the bytes are the save that it keeps, the device, the tally, and
+// how many requests there were.
 use bench_words::*;
 use facts::probe::DeviceKind;
 use processor::Device;
@@ -11,6 +12,7 @@ pub struct State {
     pub kept: usize,
     pub device: Device,
     pub tally: Tally,
+    pub requests: u32,
 }
 
 // An answer, and what is held after it.
@@ -21,6 +23,14 @@ pub struct Asked {
 
 pub fn same(answer: Answer, state: State) -> Asked {
     Asked { answer, state }
+}
+
+// With one request more.
+pub fn counted(state: State) -> State {
+    State {
+        requests: low(state.requests as usize + 1),
+        ..state
+    }
 }
 
 // A bare device on no memory.
@@ -40,5 +50,6 @@ pub fn first() -> State {
         kept: 0,
         device,
         tally,
+        requests: 0,
     }
 }

@@ -17,16 +17,20 @@ const LONGEST_WORD: usize = 2048;
 // Where the bytes of a request's second word of bytes stand; those of its first stand at 0.
 pub const SECOND_BYTES: u32 = 1024;
 
+// What is added to the number of a verb of the processor, where a verb is a word.
+pub const DEVICE_VERBS: usize = 1000;
+
 // The number that `@` goes on with.
 pub const SECOND_RECORD: usize = 20;
 
 // The number of its verb, 0 where it has none; the number of its first word behind the verb that is not
-// what it should be, 0 where there is none; whether it is a good request to the processor; where the words
+// what it should be, 0 where there is none, and the letter of what that is; whether it is a good request to the processor; where the words
 // of its answer stand in the table; how much output it asks for, and its numbers.
 pub struct Words {
     pub verb: usize,
     pub of_processor: bool,
     pub bad: usize,
+    pub expected: u8,
     pub answer: usize,
     pub room: usize,
     pub numbers: [u32; MOST_NUMBERS],
@@ -60,6 +64,7 @@ struct Reading {
     place: usize,
     count: usize,
     bad: usize,
+    expected: u8,
     answer: usize,
     room: usize,
     numbers: [u32; MOST_NUMBERS],
@@ -87,6 +92,7 @@ fn read_by(row: Row, of_processor: bool, line: &[u8], bytes: &mut [u8]) -> Words
         verb: row.number,
         of_processor: of_processor && good,
         bad: reading.bad,
+        expected: reading.expected,
         answer: reading.answer,
         room: reading.room,
         numbers,
@@ -102,6 +108,7 @@ fn begun(row: usize, at: usize) -> Reading {
         place: 0,
         count: 0,
         bad: 0,
+        expected: 0,
         answer: 0,
         room: 0,
         numbers: [0; MOST_NUMBERS],
@@ -118,10 +125,7 @@ fn one_more(mut reading: Reading, line: &[u8], bytes: &mut [u8]) -> Reading {
     }
     reading.walk = next;
     match byte(&TABLE, word.start) {
-        b'>' => ended(Reading {
-            answer: next.passed,
-            ..reading
-        }),
+        b'>' => answered_at(reading, next.leave(), next.passed),
         b'_' => with(reading, 0),
         b'@' => Reading {
             count: SECOND_RECORD,
@@ -138,9 +142,18 @@ fn one_more(mut reading: Reading, line: &[u8], bytes: &mut [u8]) -> Reading {
     }
 }
 
-fn ended(mut reading: Reading) -> Reading {
+fn answered_at(mut reading: Reading, walk: Walk, answer: usize) -> Reading {
+    reading.walk = walk;
+    reading.answer = answer;
+    reading
+}
+
+// At a word that is not what its letter says, nothing more is read.
+fn stopped(mut reading: Reading, letter: u8) -> Reading {
     let walk = walk_from(0);
     reading.walk = walk;
+    reading.bad = reading.word;
+    reading.expected = letter;
     reading
 }
 
@@ -166,10 +179,7 @@ fn one_word(reading: Reading, letter: u8, line: &[u8], bytes: &mut [u8]) -> Read
 
 fn behind_word(mut reading: Reading, letter: u8, got: Got, end: usize) -> Reading {
     if !got.good {
-        return ended(Reading {
-            bad: reading.word,
-            ..reading
-        });
+        return stopped(reading, letter);
     }
     let walk = reading.walk;
     let next = walk.into_row(got.row);
@@ -199,6 +209,8 @@ fn word_by(letter: u8, word: &[u8], bytes: &mut [u8]) -> Got {
         b'x' => of_number(bytes_of(word, 2, bytes), 0xffff_ffff),
         b'p' => of_number(bytes_of(word, 4, bytes), 0xffff_ffff),
         b'w' => of_number(read_word(word), 0xffff_ffff),
+        b't' => of_number(read_bit(word), 1),
+        b'v' => of_verb(word),
         b'A'..=b'Z' => of_name(letter, word),
         _ => of_number(read_decimal(word), bound(letter)),
     }
@@ -228,6 +240,29 @@ fn of_number(read: Number, most: u32) -> Got {
     }
 }
 
+// A verb's number, and none for no word.
+fn of_verb(word: &[u8]) -> Got {
+    let of_device = find(&TABLE, b'd', 0, word);
+    if 0 < of_device.number {
+        let number = low(of_device.number % 1000 + DEVICE_VERBS);
+        return of_number(Number::Is(number), 0xffff_ffff);
+    }
+    let of_codec = find(&TABLE, b'a', 0, word);
+    Got {
+        good: 0 < of_codec.number || word.len() == 0,
+        number: low(of_codec.number),
+        row: 0,
+    }
+}
+
+// One digit alone.
+fn read_bit(word: &[u8]) -> Number {
+    if word.len() != 1 {
+        return Number::Bad;
+    }
+    read_decimal(word)
+}
+
 fn bound(letter: u8) -> u32 {
     match letter {
         b'n' => 999_999_999,
@@ -235,7 +270,6 @@ fn bound(letter: u8) -> u32 {
         b'm' => 65537,
         b'h' => 65535,
         b'b' => 255,
-        b't' => 1,
         _ => 1024,
     }
 }

@@ -5,23 +5,25 @@
 // The lists: a verbs that need no processor, d those of the processor that the bench holds, C commands,
 // R responses, U values, V the values of a Read, K kinds of device, S sources, I what a response is
 // asked for, L E D a dialect's address length, its encoding and what it is asked, z answers that are no
-// verb's own. A new name comes behind those of its list, so that their numbers stay.
+// verb's own; and with a text behind the name, e the letters of words and what is expected there, i the
+// refusals. A new name comes behind those of its list, so that their numbers stay.
 //
 // The letters of words: a list's own letter for a name of it and the words of its row;
 //   x BYTES   p BYTES in pairs   r ROOM   q ROOM for so many words   n NUMBER   m NUMBER to 65,537
-//   h NUMBER to 65,535   k NUMBER to 1,048,576   b NUMBER to 255   t BIT   w WORD
+//   h NUMBER to 65,535   k NUMBER to 1,048,576   b NUMBER to 255   t BIT   w WORD   v VERB or nothing
 //   and without a word: _ a number   @ the next number is that of place 20   ! all the ROOM there is
 //
 // In an answer a word of more than one byte stands for itself, a name that is none is `none`, and
 //   n NUMBER   w WORD   c one byte   x the whole output   y its first bytes   q its first words
 //   p a place in the bytes of the request, and what stands there   ; the end, where the next number is 0
-//   o NUMBER, f WORD: one less than its number, and none for 0
+//   o NUMBER, f WORD: one less than its number, and none for 0   : NUMBER and a colon
+//   e, i the text of that list   v the words of a verb, and for 0 all verbs
 ghost use Prim.Native.Nat.{_≤_};
 ghost use lib.ListN.{length};
 use octets::Place;
 use octets::number::byte;
 
-pub const TABLE: [u8; 2652] = *b"a checksum x > c
+pub const TABLE: [u8; 4396] = *b"a checksum x > c
 a frame x r > n x
 a plain|strict x > p
 a from_f32|to_f32|float w > w
@@ -49,12 +51,14 @@ a get x h n n h > w
 a join_memory|join_floats x h n n x h n n r > n n n x
 a response x > R
 a is R > memory_view n float_view n hardware_id n ack n config_changed n fir_size n
-a into I
+a into I R
 a matches C @ R > n
 a values x V > n ; V
 a value_number x n V > U
 a encode_response|encode_response_frame x r R > n x
 a status b b x h n n > preset o source S volume f mute o dirac o
+a why b > i
+a help v > v
 d lend m m > done
 d bare b b K h > n n n n K n
 d new b b K h p > n n n n K n
@@ -78,6 +82,8 @@ d replay x > done
 d judge x > n n
 d listing x r > n x
 d list_kept r > n x
+d device > hw_id n dsp_version n firmware n n kind K taps n eeprom n settings n kept n
+d end > end n requests
 C ReadHardwareId|FirLoadEnd
 C ReadFloats|ReadMemory h b
 C WriteMemory h n n
@@ -109,9 +115,9 @@ V Int32 w _
 V Unknown|Chunks n n
 K Generic|M4x10Hd|M10x10Hd|MSharc4x8|M2x4Hd|Shd|DDRC24|DDRC88BM|Nanodigi2x8|C8x12v2|M2x4|Flex|FlexHtx
 S NotInstalled|Analog|Toslink|Spdif|Usb|Aesebu|Rca|Xlr|Lan|I2S|Bluetooth|Hdmi
-I memory_view|float_view|hardware_id R > n n n
-I ack|config_changed R > done
-I fir_size R > n
+I memory_view|float_view|hardware_id > n n n
+I ack|config_changed > done
+I fir_size > n
 L 2|3
 E float|fixed
 D addr h > n n w
@@ -120,11 +126,48 @@ D int h > U
 D delay w > U
 D mute|invert t > U
 z bad_verb bad verb
-z bad_argument bad argument n
+z bad_argument bad argument : expected e
 z none none
 z refused refused n
 z refused_output refused n x
 z value U
+e x BYTES, pairs of hexadecimal digits, or - for none
+e p BYTES, two for each address, or - for none
+e r ROOM, a number to 1024
+e q ROOM, a number of words to 1024
+e n NUMBER, below 1000000000
+e m NUMBER, to 65537
+e h NUMBER, to 65535
+e k NUMBER, to 1048576
+e b NUMBER, to 255
+e t BIT, 0 or 1
+e w WORD, eight hexadecimal digits
+e v VERB, one of those that help names
+e C RECORD, the name of a command
+e R RESPONSE, the name of a response
+e U VALUE, the name of a value: Float, FixedPoint, Int, Int32 or Unknown
+e V VALUES, Chunks or the name of a value
+e K KIND, the name of a kind of device
+e S SOURCE, the name of a source
+e I KIND, memory_view, float_view, hardware_id, ack, config_changed or fir_size
+e L LENGTH, 2 or 3
+e E ENCODING, float or fixed
+e D CALL, addr, float, int, delay, mute or invert
+i 1 the received bytes are empty, or their length byte is 0
+i 2 there are fewer bytes than the length byte asks
+i 3 the packet ends before a field
+i 4 a WriteBiquad has fewer than 20 bytes of values
+i 5 too long: a packet over 254 bytes, a save over 16777216, or a listing's input over 32768
+i 6 the output is shorter than the whole result
+i 7 an address, a place or a part lies outside the memory, the view or the payload
+i 8 an address has another length than 2 or 3
+i 9 strict receipt: the checksum differs
+i 10 strict receipt: bytes follow the checksum
+i 11 the joined views do not adjoin
+i 12 the response is not of the kind asked for
+i 13 the save has a wrong field, order, kind or count
+i 14 a memory has a wrong size, or the sizes differ
+i 15 the first of the joined views ends behind 65535
 ";
 
 // A name's number in its list, its place, and where the words of its row begin.
@@ -231,6 +274,12 @@ impl Walk {
         walk_at(word, words, self.passed, self.above)
     }
 
+    // Leaves its row for the one in which that stands.
+    pub fn leave(self) -> Walk {
+        let word = self.word;
+        walk_at(word, self.above, self.top, 0)
+    }
+
     // Goes on to the next word.
     pub fn next(self, table: &[u8]) -> Walk {
         if byte(table, self.passed) == b' ' {
@@ -254,4 +303,14 @@ fn behind(table: &[u8], space: usize, above: usize, top: usize) -> Walk {
     let start = space + 1;
     let len = word_len(&table[start..]);
     walk_at(Place { start, len }, start + len, above, top)
+}
+
+// The text of a row behind its name.
+pub fn text_at(table: &[u8], words: usize) -> &[u8] {
+    if table.len() <= words {
+        return &table[0..0];
+    }
+    let rest = &table[words + 1..];
+    let end = text::until(rest, b'\n');
+    &rest[0..end]
 }
