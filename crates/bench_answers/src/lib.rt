@@ -29,9 +29,23 @@ struct Putting {
 pub fn put(answer: Answer, own: usize, bytes: &[u8], lent: &[u8], out: &mut [u8]) -> usize
     ensures { λ r. ⌜ r ≤ length (now (out .entry)) ⌝ }
 {
-    let end = put_words(answer, own, bytes, lent, out, 0);
+    // a function that names the table is dear to check: the others are lent it
+    put_by(&TABLE, answer, own, bytes, lent, out)
+}
+
+fn put_by(
+    table: &[u8],
+    answer: Answer,
+    own: usize,
+    bytes: &[u8],
+    lent: &[u8],
+    out: &mut [u8],
+) -> usize
+    ensures { λ r. ⌜ r ≤ length (now (out .entry)) ⌝ }
+{
+    let end = put_words(table, answer, own, bytes, lent, out, 0);
     let values = answer.values;
-    let end = put_each(values, bytes, out, end);
+    let end = put_each(table, values, bytes, out, end);
     if end == 0 {
         return 0;
     }
@@ -43,7 +57,7 @@ pub fn put(answer: Answer, own: usize, bytes: &[u8], lent: &[u8], out: &mut [u8]
 }
 
 // Each value in chunks, up to one that is refused.
-fn put_each(place: Place, bytes: &[u8], out: &mut [u8], at: usize) -> usize {
+fn put_each(table: &[u8], place: Place, bytes: &[u8], out: &mut [u8], at: usize) -> usize {
     let all = Values::Chunks(place);
     let count = all.count();
     let mut end = at;
@@ -51,10 +65,10 @@ fn put_each(place: Place, bytes: &[u8], out: &mut [u8], at: usize) -> usize {
     while i < count {
         match all.get(bytes, i) {
             ReadValue::Is(one) => {
-                end = put_words(fill(VALUE, value(one)), 0, bytes, bytes, out, end);
+                end = put_words(table, fill(VALUE, value(one)), 0, bytes, bytes, out, end);
             }
             ReadValue::Refused(number) => {
-                return put_words(refused(number), 0, bytes, bytes, out, end);
+                return put_words(table, refused(number), 0, bytes, bytes, out, end);
             }
         }
         i += 1;
@@ -64,6 +78,7 @@ fn put_each(place: Place, bytes: &[u8], out: &mut [u8], at: usize) -> usize {
 
 // Puts the words of an answer behind the first `at` bytes of the output, and answers where they end.
 fn put_words(
+    table: &[u8],
     answer: Answer,
     own: usize,
     bytes: &[u8],
@@ -71,17 +86,17 @@ fn put_words(
     out: &mut [u8],
     at: usize,
 ) -> usize {
-    let mut putting = begun(answer.form, own, at);
+    let mut putting = begun(table, answer.form, own, at);
     let mut turns = 0;
     while turns < MOST_WORDS {
-        putting = put_next(putting, answer, bytes, lent, out);
+        putting = put_next(table, putting, answer, bytes, lent, out);
         turns += 1;
     }
     putting.end
 }
 
-fn begun(form: usize, own: usize, end: usize) -> Putting {
-    let row = find(&TABLE, b'z', form, b"");
+fn begun(table: &[u8], form: usize, own: usize, end: usize) -> Putting {
+    let row = find(table, b'z', form, b"");
     let start = if form == 0 { own } else { row.words };
     let walk = walk_from(start);
     Putting {
@@ -93,6 +108,7 @@ fn begun(form: usize, own: usize, end: usize) -> Putting {
 
 // Puts one word more; once all are put, the table has no more.
 fn put_next(
+    table: &[u8],
     putting: Putting,
     answer: Answer,
     bytes: &[u8],
@@ -100,7 +116,7 @@ fn put_next(
     out: &mut [u8],
 ) -> Putting {
     let before = putting.walk;
-    let walk = before.next(&TABLE);
+    let walk = before.next(table);
     let numbers = answer.numbers;
     let i = putting.count;
     let end = putting.end;
@@ -112,15 +128,15 @@ fn put_next(
         return putting;
     }
     if 1 < word.len {
-        return put_to(walk, i, say(octets::part(&TABLE, word), out, end));
+        return put_to(walk, i, say(octets::part(table, word), out, end));
     }
     let a = numbers[i];
-    let letter = byte_at(&TABLE, word.start);
+    let letter = byte_at(table, word.start);
     match letter {
-        b'A'..=b'Z' => put_name(walk, letter, a, i + 1, out, end),
+        b'A'..=b'Z' => put_name(table, walk, letter, a, i + 1, out, end),
         b';' => put_to(end_at(walk, a), i, end),
         b'p' => put_to(walk, i + 2, part(place(a, numbers[i + 1]), bytes, out, end)),
-        _ => put_to(walk, i + 1, put_word(letter, a, lent, out, end)),
+        _ => put_to(walk, i + 1, put_word(table, letter, a, lent, out, end)),
     }
 }
 
@@ -137,6 +153,7 @@ fn end_at(walk: Walk, number: u32) -> Walk {
 
 // Puts a name and goes into its row, or puts that there is none.
 fn put_name(
+    table: &[u8],
     walk: Walk,
     list: u8,
     number: u32,
@@ -144,17 +161,17 @@ fn put_name(
     out: &mut [u8],
     end: usize,
 ) -> Putting {
-    let row = find(&TABLE, list, number as usize, b"");
+    let row = find(table, list, number as usize, b"");
     if row.number == 0 {
         return put_to(walk, count, say(b"none", out, end));
     }
     let name = row.name;
-    let end = say(octets::part(&TABLE, name), out, end);
+    let end = say(octets::part(table, name), out, end);
     put_to(walk.into_row(row.words), count, end)
 }
 
 // Puts one word by its letter and the next number.
-fn put_word(letter: u8, n: u32, lent: &[u8], out: &mut [u8], at: usize) -> usize {
+fn put_word(table: &[u8], letter: u8, n: u32, lent: &[u8], out: &mut [u8], at: usize) -> usize {
     match letter {
         b'_' => at,
         b'w' => say(&text::hex8(n), out, at),
@@ -164,9 +181,9 @@ fn put_word(letter: u8, n: u32, lent: &[u8], out: &mut [u8], at: usize) -> usize
         b'q' => words(n, lent, out, at),
         b'o' | b'f' => known(letter, n, out, at),
         b':' => colon(decimal(n, out, at), out),
-        b'e' => expected(byte(n), out, at),
-        b'i' => meaning(n as usize, out, at),
-        b'v' => help(n as usize, out, at),
+        b'e' => expected(table, byte(n), out, at),
+        b'i' => meaning(table, n as usize, out, at),
+        b'v' => help(table, n as usize, out, at),
         _ => decimal(n, out, at),
     }
 }
@@ -196,73 +213,73 @@ fn colon(end: usize, out: &mut [u8]) -> usize {
 }
 
 // What a word of this letter is.
-fn expected(letter: u8, out: &mut [u8], at: usize) -> usize {
-    let row = find(&TABLE, b'e', 0, &[letter]);
-    say(text_at(&TABLE, row.words), out, at)
+fn expected(table: &[u8], letter: u8, out: &mut [u8], at: usize) -> usize {
+    let row = find(table, b'e', 0, &[letter]);
+    say(text_at(table, row.words), out, at)
 }
 
 // What a refusal of this number means.
-fn meaning(number: usize, out: &mut [u8], at: usize) -> usize {
-    let row = find(&TABLE, b'i', number, b"");
+fn meaning(table: &[u8], number: usize, out: &mut [u8], at: usize) -> usize {
+    let row = find(table, b'i', number, b"");
     if row.number == 0 {
         return say(b"none", out, at);
     }
-    say(text_at(&TABLE, row.words), out, at)
+    say(text_at(table, row.words), out, at)
 }
 
 // A verb and its words, and for 0 all verbs.
-fn help(verb: usize, out: &mut [u8], at: usize) -> usize {
+fn help(table: &[u8], verb: usize, out: &mut [u8], at: usize) -> usize {
     if verb == 0 {
-        let end = verbs(b'a', out, at);
-        return verbs(b'd', out, end);
+        let end = verbs(table, b'a', out, at);
+        return verbs(table, b'd', out, end);
     }
     if verb < DEVICE_VERBS {
-        return letters(find(&TABLE, b'a', verb, b""), out, at);
+        return letters(table, find(table, b'a', verb, b""), out, at);
     }
-    letters(find(&TABLE, b'd', verb - DEVICE_VERBS, b""), out, at)
+    letters(table, find(table, b'd', verb - DEVICE_VERBS, b""), out, at)
 }
 
-fn verbs(list: u8, out: &mut [u8], at: usize) -> usize {
+fn verbs(table: &[u8], list: u8, out: &mut [u8], at: usize) -> usize {
     let mut end = at;
     let mut number = 1;
     while number < DEVICE_VERBS {
-        let row = find(&TABLE, list, number, b"");
+        let row = find(table, list, number, b"");
         if row.number == 0 {
             break;
         }
         let name = row.name;
-        end = say(octets::part(&TABLE, name), out, end);
+        end = say(octets::part(table, name), out, end);
         number += 1;
     }
     end
 }
 
 // A row's name, and what the words behind it are called.
-fn letters(row: Row, out: &mut [u8], at: usize) -> usize {
+fn letters(table: &[u8], row: Row, out: &mut [u8], at: usize) -> usize {
     let name = row.name;
-    let mut end = say(octets::part(&TABLE, name), out, at);
+    let mut end = say(octets::part(table, name), out, at);
     let mut walk = walk_from(row.words);
     let mut turns = 0;
     while turns < MOST_WORDS {
-        walk = walk.next(&TABLE);
+        walk = walk.next(table);
         let word = walk.word;
-        let letter = byte_at(&TABLE, word.start);
+        let letter = byte_at(table, word.start);
         if letter == b'>' {
             break;
         }
-        end = called(letter, out, end);
+        end = called(table, letter, out, end);
         turns += 1;
     }
     end
 }
 
 // What a word of this letter is called: its text up to the comma. Without a word it has none.
-fn called(letter: u8, out: &mut [u8], at: usize) -> usize {
-    let row = find(&TABLE, b'e', 0, &[letter]);
+fn called(table: &[u8], letter: u8, out: &mut [u8], at: usize) -> usize {
+    let row = find(table, b'e', 0, &[letter]);
     if row.number == 0 {
         return at;
     }
-    let text = text_at(&TABLE, row.words);
+    let text = text_at(table, row.words);
     let end = text::until(text, b',');
     say(&text[0..end], out, at)
 }

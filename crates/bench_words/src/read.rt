@@ -72,18 +72,24 @@ struct Reading {
 
 // Reads a request, and puts its bytes into `bytes`.
 pub fn read(line: &[u8], bytes: &mut [u8]) -> Words {
-    let row = find(&TABLE, b'a', 0, first(line));
-    if row.number == 0 {
-        return read_by(find(&TABLE, b'd', 0, first(line)), true, line, bytes);
-    }
-    read_by(row, false, line, bytes)
+    // a function that names the table is dear to check: the others are lent it
+    read_in(&TABLE, line, bytes)
 }
 
-fn read_by(row: Row, of_processor: bool, line: &[u8], bytes: &mut [u8]) -> Words {
+fn read_in(table: &[u8], line: &[u8], bytes: &mut [u8]) -> Words {
+    let row = find(table, b'a', 0, first(line));
+    if row.number == 0 {
+        let row = find(table, b'd', 0, first(line));
+        return read_by(table, row, true, line, bytes);
+    }
+    read_by(table, row, false, line, bytes)
+}
+
+fn read_by(table: &[u8], row: Row, of_processor: bool, line: &[u8], bytes: &mut [u8]) -> Words {
     let mut reading = begun(row.words, word_end(line));
     let mut steps = 0;
     while steps < MOST_STEPS {
-        reading = one_more(reading, line, bytes);
+        reading = one_more(table, reading, line, bytes);
         steps += 1;
     }
     let numbers = reading.numbers;
@@ -116,15 +122,15 @@ fn begun(row: usize, at: usize) -> Reading {
 }
 
 // Reads one word more; once all are read, or one is bad, the table has no more.
-fn one_more(mut reading: Reading, line: &[u8], bytes: &mut [u8]) -> Reading {
+fn one_more(table: &[u8], mut reading: Reading, line: &[u8], bytes: &mut [u8]) -> Reading {
     let walk = reading.walk;
-    let next = walk.next(&TABLE);
+    let next = walk.next(table);
     let word = next.word;
     if word.len == 0 {
         return reading;
     }
     reading.walk = next;
-    match byte(&TABLE, word.start) {
+    match byte(table, word.start) {
         b'>' => answered_at(reading, next.leave(), next.passed),
         b'_' => with(reading, 0),
         b'@' => Reading {
@@ -138,7 +144,7 @@ fn one_more(mut reading: Reading, line: &[u8], bytes: &mut [u8]) -> Reading {
             },
             0,
         ),
-        letter => one_word(reading, letter, line, bytes),
+        letter => one_word(table, reading, letter, line, bytes),
     }
 }
 
@@ -167,13 +173,13 @@ fn with(mut reading: Reading, number: u32) -> Reading {
     reading
 }
 
-fn one_word(reading: Reading, letter: u8, line: &[u8], bytes: &mut [u8]) -> Reading {
+fn one_word(table: &[u8], reading: Reading, letter: u8, line: &[u8], bytes: &mut [u8]) -> Reading {
     let at = reading.at;
     if line.len() < at {
         return reading;
     }
     let rest = &line[at..];
-    let got = word_by(letter, first(rest), from_place(bytes, reading.place));
+    let got = word_by(table, letter, first(rest), from_place(bytes, reading.place));
     behind_word(reading, letter, got, at + word_end(rest))
 }
 
@@ -204,20 +210,20 @@ struct Got {
     row: usize,
 }
 
-fn word_by(letter: u8, word: &[u8], bytes: &mut [u8]) -> Got {
+fn word_by(table: &[u8], letter: u8, word: &[u8], bytes: &mut [u8]) -> Got {
     match letter {
         b'x' => of_number(bytes_of(word, 2, bytes), 0xffff_ffff),
         b'p' => of_number(bytes_of(word, 4, bytes), 0xffff_ffff),
         b'w' => of_number(read_word(word), 0xffff_ffff),
         b't' => of_number(read_bit(word), 1),
-        b'v' => of_verb(word),
-        b'A'..=b'Z' => of_name(letter, word),
+        b'v' => of_verb(table, word),
+        b'A'..=b'Z' => of_name(table, letter, word),
         _ => of_number(read_decimal(word), bound(letter)),
     }
 }
 
-fn of_name(list: u8, word: &[u8]) -> Got {
-    let row = find(&TABLE, list, 0, word);
+fn of_name(table: &[u8], list: u8, word: &[u8]) -> Got {
+    let row = find(table, list, 0, word);
     Got {
         good: 0 < row.number,
         number: low(row.number),
@@ -241,13 +247,13 @@ fn of_number(read: Number, most: u32) -> Got {
 }
 
 // A verb's number, and none for no word.
-fn of_verb(word: &[u8]) -> Got {
-    let of_device = find(&TABLE, b'd', 0, word);
+fn of_verb(table: &[u8], word: &[u8]) -> Got {
+    let of_device = find(table, b'd', 0, word);
     if 0 < of_device.number {
         let number = low(of_device.number % 1000 + DEVICE_VERBS);
         return of_number(Number::Is(number), 0xffff_ffff);
     }
-    let of_codec = find(&TABLE, b'a', 0, word);
+    let of_codec = find(table, b'a', 0, word);
     Got {
         good: 0 < of_codec.number || word.len() == 0,
         number: low(of_codec.number),

@@ -7,10 +7,10 @@ use Rattle.bench_answers.proofs.letters.Statement.{statement}
 use Rattle.bench_answers.proofs.letters.Tie as tie
 
 abbrev Inv-loop : tie.InvT-loop
-Inv-loop out₀ at end₀ walk₀ turns₀ t11 t12 out end walk turns = (turns ≤ 64) × (length out ≡ length out₀)
+Inv-loop table out₀ at end₀ walk₀ turns₀ out end walk turns = (turns ≤ 64) × (length out ≡ length out₀)
 
 abbrev μ-loop : tie.MeasureT-loop
-μ-loop out₀ at end₀ walk₀ turns₀ t11 t12 out end walk turns = 64 - turns
+μ-loop table out₀ at end₀ walk₀ turns₀ out end walk turns = 64 - turns
 
 pub letters-spec : {M : Type 1} → statement M
 letters-spec =
@@ -18,14 +18,11 @@ letters-spec =
     (tie.spec
     Inv-loop
     μ-loop
-    (λ c. search needs)
     (λ c κs. search needs)
     (λ c κs. search needs)
     (λ c κs. search needs)
     (λ c. search needs)
-    (λ c. search needs)
     (λ c κs. search needs)
-    (λ c. search needs)
     (λ c κs. search needs)
     (λ c κs. search needs)
     (λ c. search needs)

@@ -7,10 +7,10 @@ use Rattle.bench_answers.proofs.put_each.Statement.{statement}
 use Rattle.bench_answers.proofs.put_each.Tie as tie
 
 abbrev Inv-loop : tie.InvT-loop
-Inv-loop bytes out₀ at all count end₀ i₀ out end i = (i ≤ count) × (length out ≡ length out₀)
+Inv-loop table bytes out₀ at all count end₀ i₀ out end i = (i ≤ count) × (length out ≡ length out₀)
 
 abbrev μ-loop : tie.MeasureT-loop
-μ-loop bytes out₀ at all count end₀ i₀ out end i = count - i
+μ-loop table bytes out₀ at all count end₀ i₀ out end i = count - i
 
 pub put-each-spec : {M : Type 1} → statement M
 put-each-spec =

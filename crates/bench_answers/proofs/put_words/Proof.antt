@@ -7,10 +7,10 @@ use Rattle.bench_answers.proofs.put_words.Statement.{statement}
 use Rattle.bench_answers.proofs.put_words.Tie as tie
 
 abbrev Inv-loop : tie.InvT-loop
-Inv-loop answer own bytes lent out₀ at putting₀ turns₀ out putting turns = (turns ≤ 64) × (length out ≡ length out₀)
+Inv-loop table answer own bytes lent out₀ at putting₀ turns₀ out putting turns = (turns ≤ 64) × (length out ≡ length out₀)
 
 abbrev μ-loop : tie.MeasureT-loop
-μ-loop answer own bytes lent out₀ at putting₀ turns₀ out putting turns = 64 - turns
+μ-loop table answer own bytes lent out₀ at putting₀ turns₀ out putting turns = 64 - turns
 
 pub put-words-spec : {M : Type 1} → statement M
 put-words-spec =

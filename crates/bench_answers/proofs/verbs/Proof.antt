@@ -7,10 +7,10 @@ use Rattle.bench_answers.proofs.verbs.Statement.{statement}
 use Rattle.bench_answers.proofs.verbs.Tie as tie
 
 abbrev Inv-loop : tie.InvT-loop
-Inv-loop list out₀ at end₀ number₀ t8 t9 t10 out end number = (number ≤ 1000) × (length out ≡ length out₀)
+Inv-loop table list out₀ at end₀ number₀ t9 out end number = (number ≤ 1000) × (length out ≡ length out₀)
 
 abbrev μ-loop : tie.MeasureT-loop
-μ-loop list out₀ at end₀ number₀ t8 t9 t10 out end number = 1000 - number
+μ-loop table list out₀ at end₀ number₀ t9 out end number = 1000 - number
 
 pub verbs-spec : {M : Type 1} → statement M
 verbs-spec =
@@ -20,9 +20,7 @@ verbs-spec =
     μ-loop
     (λ c. search needs)
     (λ c. search needs)
-    (λ c. search needs)
     (λ c κs. search needs)
-    (λ c. search needs)
     (λ c κs. search needs)
     (λ c κs. search needs)
     (λ c. search needs)

@@ -7,10 +7,10 @@ use Rattle.bench_words.proofs.read.read_by.Statement.{statement}
 use Rattle.bench_words.proofs.read.read_by.Tie as tie
 
 abbrev Inv-loop : tie.InvT-loop
-Inv-loop row of-processor line bytes₀ reading₀ steps₀ bytes reading steps = (steps ≤ 64) × (length bytes ≡ length bytes₀)
+Inv-loop table row of-processor line bytes₀ reading₀ steps₀ bytes reading steps = (steps ≤ 64) × (length bytes ≡ length bytes₀)
 
 abbrev μ-loop : tie.MeasureT-loop
-μ-loop row of-processor line bytes₀ reading₀ steps₀ bytes reading steps = 64 - steps
+μ-loop table row of-processor line bytes₀ reading₀ steps₀ bytes reading steps = 64 - steps
 
 pub read-by-spec : {M : Type 1} → statement M
 read-by-spec =

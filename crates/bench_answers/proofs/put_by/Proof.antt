@@ -1,14 +1,14 @@
 -- The line end changes no length.
 use lib.ListN.{length-set}
 use borrow.Author.Needs.{needs}
-use Rattle.bench_answers.proofs.put.Statement.{statement}
-use Rattle.bench_answers.proofs.put.Tie as tie
+use Rattle.bench_answers.proofs.put_by.Statement.{statement}
+use Rattle.bench_answers.proofs.put_by.Tie as tie
 
 same-length-3 : tie.Need-same-length-3
 same-length-3 c = simp length-set (search needs)
 
-pub put-spec : {M : Type 1} → statement M
-put-spec =
+pub put-by-spec : {M : Type 1} → statement M
+put-by-spec =
     tie.close
     (tie.spec
     (λ c κs. search needs)
