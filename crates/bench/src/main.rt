@@ -2,6 +2,7 @@
 // docs/BENCH.md describes its language. Nothing is decided here but how a line is read and how an
 // answer is written: every answer is a library's.
 mod console;
+mod files;
 mod request;
 
 fn main() {

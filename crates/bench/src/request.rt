@@ -1,4 +1,5 @@
 // One request: read by the table, answered by the part whose verb it is, and put by the table.
+use crate::files;
 use bench_device::state::*;
 use bench_words::*;
 use libc::STDOUT_FILENO;
@@ -94,8 +95,18 @@ fn ask(
     settings: &mut [u32],
     kept: &mut [u8],
 ) -> Asked {
-    if words.of_processor {
-        return bench_device::ask(words, bytes, lent, state, eeprom, settings, kept);
+    if !words.of_processor {
+        return same(bench_codec::ask(words, bytes, lent), state);
     }
-    same(bench_codec::ask(words, bytes, lent), state)
+    let n = words.from(0);
+    let name = head(bytes, n.a);
+    let verb = words.verb;
+    match verb {
+        27 => {
+            let saved = head(&kept[..], low(state.kept));
+            same(files::write_save(name, saved), state)
+        }
+        28 => files::read_save(name, state, kept),
+        _ => bench_device::ask(words, bytes, lent, state, eeprom, settings, kept),
+    }
 }

@@ -145,7 +145,7 @@ fn send(
 fn keep(words: Words, state: State, eeprom: &[u8], settings: &[u32], kept: &mut [u8]) -> Asked {
     let n = words.from(0);
     match save(eeprom, settings, front(kept, n.a as usize)) {
-        Written::Bytes(n) => same(number(low(n)), State { kept: n, ..state }),
+        Written::Bytes(n) => same(number(low(n)), keeping(state, n)),
         Written::Refused(k) => same(refused(k), state),
     }
 }

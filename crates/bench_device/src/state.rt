@@ -33,6 +33,11 @@ pub fn counted(state: State) -> State {
     }
 }
 
+// With so many bytes of a save kept.
+pub fn keeping(state: State, kept: usize) -> State {
+    State { kept, ..state }
+}
+
 // A bare device on no memory.
 pub fn first() -> State {
     let tally = Tally::zeroed();

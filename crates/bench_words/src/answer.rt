@@ -25,6 +25,16 @@ const REFUSED_OUTPUT: usize = 5;
 
 pub const VALUE: usize = 6;
 
+pub const NOTHING_KEPT: usize = 7;
+
+pub const NO_FILE: usize = 8;
+
+pub const NOT_WRITTEN: usize = 9;
+
+pub const NOT_READ: usize = 10;
+
+pub const LONG_FILE: usize = 11;
+
 pub fn fill(form: usize, n: Numbers) -> Answer {
     let mut numbers = [0u32; MOST_NUMBERS];
     numbers[0] = n.a;

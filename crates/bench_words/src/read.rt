@@ -3,6 +3,7 @@ ghost use Prim.Native.Nat.{_≤_};
 ghost use lib.ListN.{length};
 use crate::table::*;
 use crate::*;
+use octets::Written;
 use octets::number::byte;
 use text::*;
 
@@ -217,6 +218,7 @@ fn word_by(table: &[u8], letter: u8, word: &[u8], bytes: &mut [u8]) -> Got {
         b'w' => of_number(read_word(word), 0xffff_ffff),
         b't' => of_number(read_bit(word), 1),
         b'v' => of_verb(table, word),
+        b'f' => of_number(name_of(word, bytes), 0xffff_ffff),
         b'A'..=b'Z' => of_name(table, letter, word),
         _ => of_number(read_decimal(word), bound(letter)),
     }
@@ -293,6 +295,17 @@ fn bytes_of(word: &[u8], digits: usize, bytes: &mut [u8]) -> Number
     match read_pairs(word, bytes) {
         Pairs::Bytes(n) => Number::Is(low(n)),
         Pairs::Bad => Number::Bad,
+    }
+}
+
+// A name as it stands.
+fn name_of(word: &[u8], bytes: &mut [u8]) -> Number {
+    if word.len() == 0 {
+        return Number::Bad;
+    }
+    match octets::put(word, bytes) {
+        Written::Bytes(n) => Number::Is(low(n)),
+        Written::Refused(_) => Number::Bad,
     }
 }
 

@@ -10,7 +10,8 @@
 //
 // The letters of words: a list's own letter for a name of it and the words of its row;
 //   x BYTES   p BYTES in pairs   r ROOM   q ROOM for so many words   n NUMBER   m NUMBER to 65,537
-//   h NUMBER to 65,535   k NUMBER to 1,048,576   b NUMBER to 255   t BIT   w WORD   v VERB or nothing
+//   h NUMBER to 65,535   k NUMBER to 1,048,576   b NUMBER to 255   t BIT   w WORD   f NAME of a file
+//   v VERB or nothing
 //   and without a word: _ a number   @ the next number is that of place 20   ! all the ROOM there is
 //
 // In an answer a word of more than one byte stands for itself, a name that is none is `none`, and
@@ -23,7 +24,7 @@ ghost use lib.ListN.{length};
 use octets::Place;
 use octets::number::byte;
 
-pub const TABLE: [u8; 4396] = *b"a checksum x > c
+pub const TABLE: [u8; 4658] = *b"a checksum x > c
 a frame x r > n x
 a plain|strict x > p
 a from_f32|to_f32|float w > w
@@ -84,6 +85,7 @@ d listing x r > n x
 d list_kept r > n x
 d device > hw_id n dsp_version n firmware n n kind K taps n eeprom n settings n kept n
 d end > end n requests
+d write_save|read_save f > n
 C ReadHardwareId|FirLoadEnd
 C ReadFloats|ReadMemory h b
 C WriteMemory h n n
@@ -131,6 +133,11 @@ z none none
 z refused refused n
 z refused_output refused n x
 z value U
+z nothing_kept bad file: nothing is kept
+z no_file bad file: cannot be opened
+z not_written bad file: cannot be written
+z not_read bad file: cannot be read
+z long_file bad file: longer than 1048576 bytes
 e x BYTES, pairs of hexadecimal digits, or - for none
 e p BYTES, two for each address, or - for none
 e r ROOM, a number to 1024
@@ -142,6 +149,7 @@ e k NUMBER, to 1048576
 e b NUMBER, to 255
 e t BIT, 0 or 1
 e w WORD, eight hexadecimal digits
+e f NAME, the name of a file
 e v VERB, one of those that help names
 e C RECORD, the name of a command
 e R RESPONSE, the name of a response
