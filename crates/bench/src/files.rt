@@ -6,20 +6,41 @@ use bench_words::*;
 // One more than can be kept, to see that a file is longer.
 const MOST: usize = 1048577;
 
+const LONGEST_PATH: usize = 2048;
+
+// The save is written beside the file and takes its place once it is whole: a tuning that stands there
+// is not lost to a full disk.
 pub fn write_save(name: &[u8], saved: &[u8]) -> Answer {
     if saved.len() == 0 {
         return fill(NOTHING_KEPT, NO_NUMBERS);
     }
-    let file = os::open_overwrite(name);
+    let mut path = [0u8; LONGEST_PATH];
+    let n = put_beside(name, &mut path);
+    written_by(head(&path, low(n)), name, saved)
+}
+
+// The name with `.new` behind it, and how long that is: 0 where it has no room.
+fn put_beside(name: &[u8], path: &mut [u8]) -> usize {
+    if LONGEST_PATH - 4 < name.len() {
+        return 0;
+    }
+    octets::put(name, path);
+    octets::put(b".new", from_place(path, name.len()));
+    name.len() + 4
+}
+
+fn written_by(beside: &[u8], name: &[u8], saved: &[u8]) -> Answer {
+    let file = os::open_overwrite(beside);
     if file < 0 {
         return fill(NO_FILE, NO_NUMBERS);
     }
     let whole = io::write_all(file, saved);
     let closed = libc::close(file);
-    if !whole || closed < 0 {
-        return fill(NOT_WRITTEN, NO_NUMBERS);
+    if whole && closed == 0 && os::rename(beside, name) == 0 {
+        return number(low(saved.len()));
     }
-    number(low(saved.len()))
+    os::unlink(beside);
+    fill(NOT_WRITTEN, NO_NUMBERS)
 }
 
 // All of a file is read before anything that is kept changes.
