@@ -47,7 +47,7 @@ fn judge_sized(shape: Shape, save: &[u8]) -> Judged
 
 // Checks a save for memories of e bytes and s words.
 pub fn check_for(e: usize, s: usize, save: &[u8]) -> Done
-    ensures { λ r. ⌜ done r ≡ noFault (checkedFor e s (now (save .entry))) ⌝ }
+    ensures { λ r. ⌜ done r ≡ onAccepted (λ a. tt) (checkedFor e s (now (save .entry))) ⌝ }
 {
     if processor::too_large(e, s) {
         return Done::Refused(refusal::WRONG_SIZES);
