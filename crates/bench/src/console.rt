@@ -2,8 +2,8 @@
 ghost use Prim.Native.Nat.{_+_, _≤_};
 ghost use lib.ListN.{length};
 ghost use mathlib.Core.Path.{_≡_};
+use crate::held;
 use crate::request::answer;
-use bench_device::state;
 use libc::STDIN_FILENO;
 
 // Far more turns than any input takes, so that the loop has an end.
@@ -21,7 +21,7 @@ pub fn run(
 // Answers each line of the input. The last one may lack its line end; of one that is too long the
 // start is dropped.
 fn serve(input: &mut [u8], eeprom: &mut [u8], settings: &mut [u32], kept: &mut [u8]) {
-    let mut state = state::first();
+    let mut held = held::first();
     let mut lines = Lines {
         used: 0,
         have: 0,
@@ -42,7 +42,8 @@ fn serve(input: &mut [u8], eeprom: &mut [u8], settings: &mut [u32], kept: &mut [
             return;
         }
         let line = &input[used..end];
-        state = answer(line, lines.long, state, eeprom, settings, kept);
+        let next = answer(line, lines.long, held, eeprom, settings, kept);
+        held = next;
         if lines.ended {
             return;
         }

@@ -1,6 +1,5 @@
 // The save that is kept goes into a file and comes from one.
-use bench_device::state::*;
-use bench_words::answer::*;
+use crate::held::*;
 use bench_words::*;
 
 // One more than can be kept, to see that a file is longer.
@@ -8,11 +7,29 @@ const MOST: usize = 1048577;
 
 const LONGEST_PATH: usize = 2048;
 
+// Rows of the list z.
+const NOTHING_KEPT: u32 = 7;
+
+const NO_FILE: u32 = 8;
+
+const NOT_WRITTEN: u32 = 9;
+
+const NOT_READ: u32 = 10;
+
+const LONG_FILE: u32 = 11;
+
+pub fn ask(verb: usize, name: &[u8], held: Answer, kept: &mut [u8]) -> Asked {
+    if verb == 1028 {
+        return read_save(name, held, kept);
+    }
+    same(write_save(name, head(&kept[..], held[KEPT])), held)
+}
+
 // The save is written beside the file and takes its place once it is whole: a tuning that stands there
 // is not lost to a full disk.
-pub fn write_save(name: &[u8], saved: &[u8]) -> Answer {
+fn write_save(name: &[u8], saved: &[u8]) -> Answer {
     if saved.len() == 0 {
-        return fill(NOTHING_KEPT, NO_NUMBERS);
+        return by(NOTHING_KEPT, number(0));
     }
     let mut path = [0u8; LONGEST_PATH];
     let n = put_beside(name, &mut path);
@@ -32,7 +49,7 @@ fn put_beside(name: &[u8], path: &mut [u8]) -> usize {
 fn written_by(beside: &[u8], name: &[u8], saved: &[u8]) -> Answer {
     let file = os::open_overwrite(beside);
     if file < 0 {
-        return fill(NO_FILE, NO_NUMBERS);
+        return by(NO_FILE, number(0));
     }
     let whole = io::write_all(file, saved);
     let closed = libc::close(file);
@@ -40,36 +57,33 @@ fn written_by(beside: &[u8], name: &[u8], saved: &[u8]) -> Answer {
         return number(low(saved.len()));
     }
     os::unlink(beside);
-    fill(NOT_WRITTEN, NO_NUMBERS)
+    by(NOT_WRITTEN, number(0))
 }
 
 // All of a file is read before anything that is kept changes.
-pub fn read_save(name: &[u8], state: State, kept: &mut [u8]) -> Asked {
+fn read_save(name: &[u8], held: Answer, kept: &mut [u8]) -> Asked {
     let mut came = [0u8; MOST];
-    read_and_keep(name, &mut came, state, kept)
+    read_and_keep(name, &mut came, held, kept)
 }
 
-fn read_and_keep(name: &[u8], came: &mut [u8; MOST], state: State, kept: &mut [u8]) -> Asked {
-    keep(name, came, state, kept)
+fn read_and_keep(name: &[u8], came: &mut [u8; MOST], held: Answer, kept: &mut [u8]) -> Asked {
+    taken(name, came, held, kept)
 }
 
-fn keep(name: &[u8], came: &mut [u8], state: State, kept: &mut [u8]) -> Asked {
-    let read = read_file(name, came);
-    match read {
-        Came::Bytes(n) => taken(head(&came[..], low(n)), state, kept),
-        Came::Bad(form) => same(fill(form, NO_NUMBERS), state),
+fn taken(name: &[u8], came: &mut [u8], held: Answer, kept: &mut [u8]) -> Asked {
+    match read_file(name, came) {
+        Came::Bytes(n) => {
+            octets::put(head(&came[..], low(n)), kept);
+            keeping(n, held)
+        }
+        Came::Bad(form) => same(by(form, number(0)), held),
     }
-}
-
-fn taken(save: &[u8], state: State, kept: &mut [u8]) -> Asked {
-    octets::put(save, kept);
-    same(number(low(save.len())), keeping(state, save.len()))
 }
 
 // How many bytes came, or the form of the answer that says why none are taken.
 enum Came {
     Bytes(usize),
-    Bad(usize),
+    Bad(u32),
 }
 
 // A read that fails after the last one tells a file that cannot be read from one that has ended.

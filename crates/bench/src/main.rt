@@ -3,6 +3,7 @@
 // answer is written: every answer is a library's.
 mod console;
 mod files;
+mod held;
 mod request;
 
 fn main() {

@@ -1,112 +1,124 @@
 // One request: read by the table, answered by the part whose verb it is, and put by the table.
 use crate::files;
-use bench_device::state::*;
+use crate::held;
+use crate::held::*;
+use bench_words::read::*;
 use bench_words::*;
 use libc::STDOUT_FILENO;
 
-// Writes the answer to a line, and answers what is held after it.
+// The most output that a request is lent.
+const ROOM: usize = 4096;
+
+// Writes the answer to a line, and answers what is held after it. A remark and an empty line are
+// answered by themselves.
 pub fn answer(
     line: &[u8],
     long: bool,
-    state: State,
+    held: Answer,
     eeprom: &mut [u8],
     settings: &mut [u32],
     kept: &mut [u8],
-) -> State {
-    if is_remark(line, long) {
-        return state;
-    }
-    let state = counted(state);
-    if is_bad(line, long) {
-        return state;
-    }
-    let mut bytes = [0u8; 2048];
-    let mut lent = [0xeeu8; 4096];
-    let mut output = [0u8; 131072];
-    let words = read::read(line, &mut bytes);
-    answered(
-        words,
-        state,
-        &bytes,
-        &mut lent,
-        &mut output,
-        eeprom,
-        settings,
-        kept,
-    )
-}
-
-// A remark and an empty line are answered by themselves.
-fn is_remark(line: &[u8], long: bool) -> bool {
-    if long {
-        return false;
-    }
-    if line.len() == 0 || line[0] == b'#' {
+) -> Answer {
+    if !long && is_remark(line) {
         io::write_all(STDOUT_FILENO, line);
         io::write_all(STDOUT_FILENO, b"\n");
-        return true;
+        return held;
     }
-    false
+    let mut bytes = [0u8; 2048];
+    let words = read(line, long, &mut bytes);
+    if words.verb < DEVICE_VERBS {
+        of_codec(words, &bytes);
+        return counted(held);
+    }
+    of_device(words, &bytes, counted(held), eeprom, settings, kept)
 }
 
-// A line that is too long has lost its start.
-fn is_bad(line: &[u8], long: bool) -> bool {
-    if long {
-        io::write_all(STDOUT_FILENO, b"bad line: too long\n");
-        return true;
-    }
-    if line.len() == 0 {
-        return false;
-    }
-    if line[line.len() - 1] == b'\r' {
-        io::write_all(STDOUT_FILENO, b"bad line: ends in CR\n");
-        return true;
-    }
-    false
+fn is_remark(line: &[u8]) -> bool {
+    line.len() == 0 || line[0] == b'#'
 }
 
-// The bytes of a request that an answer shows are those of its first word, and the output of its call
-// is so much of what is lent as it asks for.
-fn answered(
+// A request without a verb has its answer in its numbers.
+fn of_codec(words: Words, bytes: &[u8]) {
+    let mut lent = [0xeeu8; ROOM];
+    let all = words.numbers;
+    if words.verb == 0 {
+        print(all, words, bytes, &lent);
+        return;
+    }
+    let out = front(&mut lent, words.room);
+    let answer = bench_codec::ask(words.verb, numbers_from(all, 0), all, bytes, out);
+    print(answer, words, bytes, &lent);
+}
+
+// The bytes of a request that an answer shows are those of its first word.
+fn print(answer: Answer, words: Words, bytes: &[u8], lent: &[u8]) {
+    let mut output = [0u8; 131072];
+    let all = words.numbers;
+    let shown = head(lent, low(words.room));
+    let end = bench_answers::put(
+        answer,
+        words.answer,
+        head(bytes, all[0]),
+        shown,
+        &mut output,
+    );
+    io::write_all(STDOUT_FILENO, &output[0..end]);
+}
+
+fn of_device(
     words: Words,
-    state: State,
     bytes: &[u8],
-    lent: &mut [u8],
-    output: &mut [u8],
+    held: Answer,
     eeprom: &mut [u8],
     settings: &mut [u32],
     kept: &mut [u8],
-) -> State {
-    let asked = ask(words, bytes, lent, state, eeprom, settings, kept);
+) -> Answer {
+    let mut lent = [0xeeu8; ROOM];
+    let all = words.numbers;
+    let n = numbers_from(all, 0);
+    let e = front(eeprom, held[EEPROM] as usize);
+    let s = front_words(settings, held[SETTINGS] as usize);
+    let asked = ask(
+        words.verb,
+        n,
+        bytes,
+        front(&mut lent, words.room),
+        held,
+        e,
+        s,
+        kept,
+    );
     let answer = asked.answer;
-    let n = words.from(0);
-    let shown = head(&lent[..], low(words.room));
-    let end = bench_answers::put(answer, words.answer, head(bytes, n.a), shown, output);
-    io::write_all(STDOUT_FILENO, &output[0..end]);
-    asked.state
+    print(answer, words, bytes, &lent);
+    asked.held
+}
+
+fn front_words(words: &mut [u32], n: usize) -> &mut [u32] {
+    if words.len() < n {
+        return words;
+    }
+    &mut words[0..n]
 }
 
 fn ask(
-    words: Words,
+    verb: usize,
+    n: Numbers,
     bytes: &[u8],
-    lent: &mut [u8],
-    state: State,
+    out: &mut [u8],
+    held: Answer,
     eeprom: &mut [u8],
     settings: &mut [u32],
     kept: &mut [u8],
 ) -> Asked {
-    if !words.of_processor {
-        return same(bench_codec::ask(words, bytes, lent), state);
-    }
-    let n = words.from(0);
-    let name = head(bytes, n.a);
-    let verb = words.verb;
     match verb {
-        27 => {
-            let saved = head(&kept[..], low(state.kept));
-            same(files::write_save(name, saved), state)
+        1004 => send(head(bytes, n.a), held, eeprom, settings, out),
+        1018 => keep(n.a, held, &eeprom[..], &settings[..], kept),
+        1027..=1028 => files::ask(verb, head(bytes, n.a), held, kept),
+        1001 | 1005 | 1006 | 1025 | 1026 => held::ask(verb, n, held),
+        _ => {
+            let saved = head(&kept[..], held[KEPT]);
+            let answer = bench_device::ask(verb, n, bytes, saved, out, held, eeprom, settings);
+            made(verb, answer, held)
         }
-        28 => files::read_save(name, state, kept),
-        _ => bench_device::ask(words, bytes, lent, state, eeprom, settings, kept),
     }
 }

@@ -3,7 +3,6 @@
 ghost use Prim.Native.Nat.{_≤_};
 ghost use lib.ListN.{length};
 use bench_records::values::value;
-use bench_words::answer::*;
 use bench_words::read::*;
 use bench_words::table::*;
 use bench_words::*;
@@ -12,6 +11,9 @@ use octets::Place;
 use octets::Written;
 use octets::number::byte as byte_at;
 use responses::Values;
+
+// The row of the list z for a value alone.
+const VALUE: u32 = 6;
 
 // More words than any answer has but for values in chunks.
 const MOST_WORDS: usize = 64;
@@ -44,7 +46,7 @@ fn put_by(
     ensures { λ r. ⌜ r ≤ length (now (out .entry)) ⌝ }
 {
     let end = put_words(table, answer, own, bytes, lent, out, 0);
-    let values = answer.values;
+    let values = place(answer[VALUES], answer[VALUES_LEN]);
     let end = put_each(table, values, bytes, out, end);
     if end == 0 {
         return 0;
@@ -65,7 +67,7 @@ fn put_each(table: &[u8], place: Place, bytes: &[u8], out: &mut [u8], at: usize)
     while i < count {
         match all.get(bytes, i) {
             ReadValue::Is(one) => {
-                end = put_words(table, fill(VALUE, value(one)), 0, bytes, bytes, out, end);
+                end = put_words(table, by(VALUE, value(one)), 0, bytes, bytes, out, end);
             }
             ReadValue::Refused(number) => {
                 return put_words(table, refused(number), 0, bytes, bytes, out, end);
@@ -86,7 +88,7 @@ fn put_words(
     out: &mut [u8],
     at: usize,
 ) -> usize {
-    let mut putting = begun(table, answer.form, own, at);
+    let mut putting = begun(table, answer[FORM] as usize, own, at);
     let mut turns = 0;
     while turns < MOST_WORDS {
         putting = put_next(table, putting, answer, bytes, lent, out);
@@ -117,25 +119,24 @@ fn put_next(
 ) -> Putting {
     let before = putting.walk;
     let walk = before.next(table);
-    let numbers = answer.numbers;
     let i = putting.count;
     let end = putting.end;
     let word = walk.word;
     if word.len == 0 {
         return putting;
     }
-    if MOST_NUMBERS - 2 < i {
+    if 30 < i {
         return putting;
     }
     if 1 < word.len {
         return put_to(walk, i, say(octets::part(table, word), out, end));
     }
-    let a = numbers[i];
+    let a = answer[i];
     let letter = byte_at(table, word.start);
     match letter {
         b'A'..=b'Z' => put_name(table, walk, letter, a, i + 1, out, end),
         b';' => put_to(end_at(walk, a), i, end),
-        b'p' => put_to(walk, i + 2, part(place(a, numbers[i + 1]), bytes, out, end)),
+        b'p' => put_to(walk, i + 2, part(place(a, answer[i + 1]), bytes, out, end)),
         _ => put_to(walk, i + 1, put_word(table, letter, a, lent, out, end)),
     }
 }

@@ -1,9 +1,8 @@
 // Requests over the crate commands: commands and dialects.
 use crate::on_facts::each;
-use crate::on_fields::*;
+use crate::on_fields::of_addr;
 use bench_records::records::*;
 use bench_records::values::*;
-use bench_words::answer::*;
 use bench_words::*;
 use commands::Commands;
 use commands::decode::ReadCommand;
@@ -13,12 +12,10 @@ use commands::dialect::FloatEncoding::*;
 use commands::write_ints;
 use numbers::float::from_bits;
 
-pub fn ask(words: Words, n: Numbers, bytes: &[u8], out: &mut [u8]) -> Answer {
+pub fn ask(verb: usize, n: Numbers, all: [u32; 32], bytes: &[u8], out: &mut [u8]) -> Answer {
     let payload = head(bytes, n.a);
-    let one = command_of(words.from(2));
-    let numbers = words.numbers;
-    let values = five_of(numbers);
-    let verb = words.verb;
+    let one = command_of(n);
+    let values = five_of(all);
     match verb {
         14 => parsed(payload),
         15 => command(Commands::mute(addr_of(n.a, n.b, n.c), n.d == 1), values),
@@ -34,23 +31,21 @@ fn parsed(packet: &[u8]) -> Answer {
     let answer = decoded.answer;
     match answer {
         ReadCommand::Command(read) => command(read, values),
-        ReadCommand::Refused(number) => refused(number),
+        ReadCommand::Refused(k) => refused(k),
     }
 }
 
-pub fn of_dialect(verb: usize, n: Numbers) -> Answer {
-    if verb == 20 {
-        return put_dialect(Dialect::const_default());
-    }
+pub fn of_dialect(n: Numbers) -> Answer {
     let dialect = dialect_of(n.a, n.b);
+    let on = n.d == 1;
     let asked = n.c;
     match asked {
         1 => of_addr(dialect.addr(half(n.d))),
-        2 => of_value(dialect.float(from_bits(n.d))),
-        3 => of_value(dialect.int(half(n.d))),
-        4 => of_value(dialect.delay(n.d)),
-        5 => of_value(dialect.mute(n.d == 1)),
-        _ => of_value(dialect.invert(n.d == 1)),
+        2 => value(dialect.float(from_bits(n.d))),
+        3 => value(dialect.int(half(n.d))),
+        4 => value(dialect.delay(n.d)),
+        5 => value(dialect.mute(on)),
+        _ => value(dialect.invert(on)),
     }
 }
 
@@ -63,10 +58,11 @@ fn dialect_of(len: u32, encoding: u32) -> Dialect {
     }
 }
 
-fn put_dialect(dialect: Dialect) -> Answer {
+pub fn default_dialect() -> Answer {
+    let dialect = Dialect::const_default();
     let addr_encoding = dialect.addr_encoding;
     let float_encoding = dialect.float_encoding;
     let len = if let AddrLen2 = addr_encoding { 1 } else { 2 };
     let encoding = if let Float32LE = float_encoding { 1 } else { 2 };
-    said(of(len, encoding, 0, 0))
+    of(len, encoding, 0, 0)
 }

@@ -1,6 +1,6 @@
-// Requests over the crate facts.
+// Requests over the crate facts, and those over dialects.
+use crate::on_commands::*;
 use bench_records::values::*;
-use bench_words::answer::*;
 use bench_words::*;
 use facts::DeviceInfo;
 use facts::eeprom;
@@ -9,6 +9,8 @@ use facts::source::Source;
 pub fn ask(verb: usize, n: Numbers) -> Answer {
     let info = info_of(n.a, n.b);
     match verb {
+        19 => of_dialect(n),
+        20 => default_dialect(),
         21 => number(kind(info.device_kind())),
         22 => number(info.supports_dirac() as u32),
         23 => sources(info),
@@ -31,8 +33,7 @@ pub fn info_of(hw_id: u32, dsp_version: u32) -> DeviceInfo {
 // Each source of a device and its number; the first that is not there has no name.
 fn sources(info: DeviceInfo) -> Answer {
     let mapping = Source::mapping(info);
-    let answer = said(NO_NUMBERS);
-    let mut numbers = answer.numbers;
+    let mut n = number(0);
     let mut i = 0;
     while i < 7 {
         if mapping.count <= i {
@@ -40,31 +41,27 @@ fn sources(info: DeviceInfo) -> Answer {
         }
         let entry = mapping.entries[i];
         let of_entry = entry.source;
-        numbers[2 * i] = source(of_entry);
-        numbers[2 * i + 1] = entry.id as u32;
+        n[2 * i] = source(of_entry);
+        n[2 * i + 1] = entry.id as u32;
         i += 1;
     }
-    Answer { numbers, ..answer }
+    n
 }
 
 // Each number of a list, as far as an answer has numbers.
 pub fn each(all: &[u16]) -> Answer {
-    let answer = said(NO_NUMBERS);
-    let mut numbers = answer.numbers;
+    let mut n = number(0);
     let mut i = 0;
     while i < all.len() {
-        if 32 <= i {
+        if 24 <= i {
             break;
         }
-        numbers[i] = nth(all, i) as u32;
+        n[i] = wide(all[i]);
         i += 1;
     }
-    Answer { numbers, ..answer }
+    n
 }
 
-fn nth(all: &[u16], i: usize) -> u16 {
-    if all.len() <= i {
-        return 0;
-    }
-    all[i]
+fn wide(half: u16) -> u32 {
+    half as u32
 }

@@ -1,6 +1,5 @@
 // Requests over the crate fields: addresses and values.
 use bench_records::values::*;
-use bench_words::answer::*;
 use bench_words::*;
 use fields::addr::*;
 use fields::value::*;
@@ -9,7 +8,7 @@ pub fn ask(verb: usize, n: Numbers, bytes: &[u8], out: &mut [u8]) -> Answer {
     match verb {
         10 => match Addr::read(head(bytes, n.b), byte(n.a)) {
             ReadAddr::Is(addr) => of_addr(addr),
-            ReadAddr::Refused(number) => refused(number),
+            ReadAddr::Refused(k) => refused(k),
         },
         11 => read_value(Value::from_bytes(head(bytes, n.a), place(n.b, n.c))),
         12 => written(addr_of(n.b, n.c, n.d).write(out)),
@@ -18,16 +17,12 @@ pub fn ask(verb: usize, n: Numbers, bytes: &[u8], out: &mut [u8]) -> Answer {
 }
 
 pub fn of_addr(addr: Addr) -> Answer {
-    said(of(addr.len as u32, addr.extra_bit as u32, addr.val, 0))
-}
-
-pub fn of_value(one: Value) -> Answer {
-    said(value(one))
+    of(addr.len as u32, addr.extra_bit as u32, addr.val, 0)
 }
 
 pub fn read_value(read: ReadValue) -> Answer {
     match read {
-        ReadValue::Is(one) => of_value(one),
-        ReadValue::Refused(number) => refused(number),
+        ReadValue::Is(one) => value(one),
+        ReadValue::Refused(k) => refused(k),
     }
 }

@@ -1,5 +1,4 @@
 // Requests over the crates packet and numbers. Floats come and go as their patterns.
-use bench_words::answer::*;
 use bench_words::*;
 use numbers::fixed_point::FixedPoint;
 use numbers::float::*;
@@ -25,10 +24,10 @@ pub fn ask(verb: usize, n: Numbers, bytes: &[u8], out: &mut [u8]) -> Answer {
 fn received(received: Received) -> Answer {
     match received {
         Received::Packet(place) => at(place),
-        Received::Refused(number) => refused(number),
+        Received::Refused(k) => refused(k),
     }
 }
 
 pub fn at(place: Place) -> Answer {
-    said(of(low(place.start), low(place.len), 0, 0))
+    of(low(place.start), low(place.len), 0, 0)
 }

@@ -1,7 +1,14 @@
 // What stands in the memories and in a save.
-use bench_words::answer::*;
 use bench_words::*;
 use octets::number::big_bytes32;
+
+pub fn ask(verb: usize, n: Numbers, eeprom: &[u8], settings: &[u32], out: &mut [u8]) -> Answer {
+    match verb {
+        1009 => peek(octets::part(eeprom, place(n.a, n.b)), out),
+        1010 => peek_words(n.a, settings, out),
+        _ => digest(eeprom, settings),
+    }
+}
 
 // Bytes, put at the start of the output.
 pub fn peek(part: &[u8], out: &mut [u8]) -> Answer {
@@ -10,7 +17,7 @@ pub fn peek(part: &[u8], out: &mut [u8]) -> Answer {
 }
 
 // The words from a place on, so far as there are any, put there as their bytes.
-pub fn peek_words(start: u32, settings: &[u32], out: &mut [u8]) -> Answer {
+fn peek_words(start: u32, settings: &[u32], out: &mut [u8]) -> Answer {
     let mut i = 0;
     while i < out.len() / 4 {
         let at = start as usize + i;
@@ -24,10 +31,10 @@ pub fn peek_words(start: u32, settings: &[u32], out: &mut [u8]) -> Answer {
 }
 
 // How much of each memory is lent, and a number that depends on what stands at each place.
-pub fn digest(eeprom: &[u8], settings: &[u32]) -> Answer {
+fn digest(eeprom: &[u8], settings: &[u32]) -> Answer {
     let bytes = digest_bytes(eeprom);
     let words = digest_words(settings);
-    said(of(low(eeprom.len()), bytes, low(settings.len()), words))
+    of(low(eeprom.len()), bytes, low(settings.len()), words)
 }
 
 fn digest_bytes(eeprom: &[u8]) -> u32 {

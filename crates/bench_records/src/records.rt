@@ -1,7 +1,5 @@
 // Commands and responses by their numbers: that of their kind, and those of their fields in order.
 use crate::values::*;
-use bench_words::answer::*;
-use bench_words::read::*;
 use bench_words::*;
 use commands::Commands;
 use commands::Commands::*;
@@ -12,94 +10,89 @@ use fields::addr::Addr;
 use fields::value::*;
 use numbers::float::*;
 use numbers::gain::Gain;
+use octets::Place;
 use responses::Responses;
 use views::floats::FloatView;
 use views::memory::MemoryView;
 
-// Where the value of Write, and the first of the five of WriteBiquad, stands in its numbers.
-const VALUE_AT: usize = 4;
-
 pub fn command_of(n: Numbers) -> Commands {
-    let addr = half(n.b);
-    let index = byte(n.b);
-    let len = byte(n.c);
-    let payload = place(n.b, n.c);
-    let data = place(n.c, n.d);
-    let kind = n.a;
+    let addr = half(n.d);
+    let index = byte(n.d);
+    let len = byte(n.e);
+    let data = place(n.e, n.f);
+    let start = data.start;
+    let count = data.len;
+    let fir = FirData { start, count };
+    let bulk = place(n.d, n.e);
+    let kind = n.c;
     match kind {
         1 => ReadHardwareId,
         2 => FirLoadEnd,
         3 => ReadFloats { addr, len },
         4 => ReadMemory { addr, size: len },
         5 => WriteMemory { addr, data },
-        6 => FirLoadData {
-            index,
-            data: FirData {
-                start: data.start,
-                count: data.len,
-            },
-        },
-        7 => Unknown {
-            cmd_id: index,
-            payload: data,
-        },
-        8 => BulkLoad { payload },
-        9 => BulkLoadFilterData { payload },
+        6 => FirLoadData { index, data: fir },
+        7 => unknown(index, data),
+        8 => BulkLoad { payload: bulk },
+        9 => BulkLoadFilterData { payload: bulk },
         10..=16 => with_bytes(n),
         _ => with_address(n),
     }
 }
 
+fn unknown(cmd_id: u8, payload: Place) -> Commands {
+    Unknown { cmd_id, payload }
+}
+
 fn with_bytes(n: Numbers) -> Commands {
-    let first = byte(n.b);
-    let reset = n.c == 1;
-    let gain = Gain(from_bits(n.b));
-    let kind = n.a;
+    let config = byte(n.d);
+    let reset = n.e == 1;
+    let value = Gain(from_bits(n.d));
+    let kind = n.c;
     match kind {
-        10 => SetConfig {
-            config: first,
-            reset,
-        },
-        11 => SetSource { source: first },
-        12 => SetMute { value: n.b == 1 },
-        13 => SetVolume { value: gain },
-        14 => FirLoadStart { index: first },
-        15 => DiracBypass { value: first },
-        _ => Unk07 { payload: first },
+        10 => SetConfig { config, reset },
+        11 => SetSource { source: config },
+        12 => SetMute { value: n.d == 1 },
+        13 => SetVolume { value },
+        14 => FirLoadStart { index: config },
+        15 => DiracBypass { value: config },
+        _ => Unk07 { payload: config },
     }
 }
 
 fn with_address(n: Numbers) -> Commands {
-    let addr = addr_of(n.b, n.c, n.d);
-    let len = byte(n.e);
-    let on = n.e == 1;
-    let value = value_of(n.e, n.f, n.g);
-    let kind = n.a;
+    let addr = addr_of(n.d, n.e, n.f);
+    let len = byte(n.g);
+    let value = value_of(n.g, n.h, n.i);
+    let kind = n.c;
     match kind {
-        17 => WriteBiquadBypass { addr, value: on },
+        17 => bypass(addr, n.g == 1),
         18 => Read { addr, len },
         19 => SwitchMux(Mux {
             addr,
             max: len,
-            arg: n.f == 1,
-            slot: byte(n.g),
+            arg: n.h == 1,
+            slot: byte(n.i),
         }),
         20 => Write { addr, value },
         _ => WriteBiquad { addr },
     }
 }
 
-// The five values that stand beside a command: those of WriteBiquad, whose numbers stand behind its
-// bytes' and its room's.
-pub fn five_of(numbers: [u32; MOST_NUMBERS]) -> [Coefficient; 5] {
+fn bypass(addr: Addr, value: bool) -> Commands {
+    WriteBiquadBypass { addr, value }
+}
+
+// The five values that stand beside a command: those of WriteBiquad.
+pub fn five_of(n: [u32; 32]) -> [Coefficient; 5] {
     let zero = Coefficient {
         value: Value::Float(0.0),
     };
     let mut all = [zero; 5];
     let mut i = 0;
     while i < 5 {
-        let at = 2 + VALUE_AT + 3 * i;
-        let value = value_of(numbers[at], numbers[at + 1], numbers[at + 2]);
+        let at = 6 + 3 * i;
+        let value = value_of(n[at], n[at + 1], n[at + 2]);
         all[i] = Coefficient { value };
         i += 1;
     }
@@ -107,33 +100,32 @@ pub fn five_of(numbers: [u32; MOST_NUMBERS]) -> [Coefficient; 5] {
 }
 
 pub fn command(command: Commands, five: [Coefficient; 5]) -> Answer {
-    let short = said(command_numbers(command));
+    let n = command_numbers(command);
     match command {
-        WriteBiquad { addr: _ } => with_five(short, five),
-        _ => short,
+        WriteBiquad { addr: _ } => with_five(n, five),
+        _ => n,
     }
 }
 
-fn with_five(short: Answer, five: [Coefficient; 5]) -> Answer {
-    let mut numbers = short.numbers;
+fn with_five(mut numbers: Answer, five: [Coefficient; 5]) -> Answer {
     let mut i = 0;
     while i < 5 {
         let coefficient = five[i];
         let one = coefficient.value;
         let n = value(one);
-        let at = VALUE_AT + 3 * i;
-        numbers[at] = n.a;
-        numbers[at + 1] = n.b;
-        numbers[at + 2] = n.c;
+        let at = 4 + 3 * i;
+        numbers[at] = n[0];
+        numbers[at + 1] = n[1];
+        numbers[at + 2] = n[2];
         i += 1;
     }
-    Answer { numbers, ..short }
+    numbers
 }
 
-fn command_numbers(command: Commands) -> Numbers {
+fn command_numbers(command: Commands) -> Answer {
     match command {
-        ReadHardwareId => of(1, 0, 0, 0),
-        FirLoadEnd => of(2, 0, 0, 0),
+        ReadHardwareId => number(1),
+        FirLoadEnd => number(2),
         ReadFloats { addr, len } => of(3, addr as u32, len as u32, 0),
         ReadMemory { addr, size } => of(4, addr as u32, size as u32, 0),
         WriteMemory { addr, data } => of(5, addr as u32, low(data.start), low(data.len)),
@@ -148,87 +140,80 @@ fn command_numbers(command: Commands) -> Numbers {
         FirLoadStart { index } => of(14, index as u32, 0, 0),
         DiracBypass { value } => of(15, value as u32, 0, 0),
         Unk07 { payload } => of(16, payload as u32, 0, 0),
-        WriteBiquadBypass { addr, value } => of_addr(17, addr, of(value as u32, 0, 0, 0)),
-        Read { addr, len } => of_addr(18, addr, of(len as u32, 0, 0, 0)),
+        WriteBiquadBypass { addr, value } => of_addr(17, addr, value as u32, 0, 0),
+        Read { addr, len } => of_addr(18, addr, len as u32, 0, 0),
         SwitchMux(mux) => {
             let addr = mux.addr;
-            of_addr(
-                19,
-                addr,
-                of(mux.max as u32, mux.arg as u32, mux.slot as u32, 0),
-            )
+            of_addr(19, addr, mux.max as u32, mux.arg as u32, mux.slot as u32)
         }
-        Write { addr, value: one } => of_addr(20, addr, value(one)),
-        WriteBiquad { addr } => of_addr(21, addr, NO_NUMBERS),
+        Write { addr, value: one } => of_values(20, addr, value(one)),
+        WriteBiquad { addr } => of_addr(21, addr, 0, 0, 0),
     }
 }
 
 // A kind, an address, and three numbers behind it.
-fn of_addr(kind: u32, addr: Addr, n: Numbers) -> Numbers {
-    Numbers {
-        e: n.a,
-        f: n.b,
-        g: n.c,
-        ..of(kind, addr.len as u32, addr.extra_bit as u32, addr.val)
-    }
+fn of_addr(kind: u32, addr: Addr, e: u32, f: u32, g: u32) -> Answer {
+    let n = of(kind, addr.len as u32, addr.extra_bit as u32, addr.val);
+    with(n, e, f, g)
+}
+
+fn of_values(kind: u32, addr: Addr, n: Answer) -> Answer {
+    of_addr(kind, addr, n[0], n[1], n[2])
 }
 
 pub fn response_of(n: Numbers) -> Responses {
-    let kind = n.a;
+    let addr = addr_of(n.d, n.e, n.f);
+    let data = values_of(n.g, n.h, n.i);
+    let size = half(n.d);
+    let kind = n.c;
     match kind {
         1 => Responses::Ack,
         2 => Responses::ConfigChanged,
         3 => Responses::Unk02,
-        4 => Responses::MemoryData(memory_of(n.b, n.c, n.d)),
-        5 => Responses::FloatData(floats_of(n.b, n.c, n.d)),
+        4 => Responses::MemoryData(memory_of(n.d, n.e, n.f)),
+        5 => Responses::FloatData(floats_of(n.d, n.e, n.f)),
         6 => Responses::Unknown {
-            cmd_id: byte(n.b),
-            payload: place(n.c, n.d),
+            cmd_id: byte(n.d),
+            payload: place(n.e, n.f),
         },
         7 => Responses::HardwareId(HardwareId {
-            fw_major: byte(n.b),
-            fw_minor: byte(n.c),
-            hw_id: byte(n.d),
+            fw_major: byte(n.d),
+            fw_minor: byte(n.e),
+            hw_id: byte(n.f),
         }),
-        8 => Responses::FirLoadSize { size: half(n.b) },
-        _ => Responses::Read {
-            addr: addr_of(n.b, n.c, n.d),
-            data: values_of(n.e, n.f, n.g),
-        },
+        8 => Responses::FirLoadSize { size },
+        _ => Responses::Read { addr, data },
     }
 }
 
 pub fn memory_of(base: u32, start: u32, len: u32) -> MemoryView {
-    MemoryView {
-        base: half(base),
-        data: place(start, len),
-    }
+    let base = half(base);
+    let data = place(start, len);
+    MemoryView { base, data }
 }
 
 pub fn floats_of(base: u32, start: u32, count: u32) -> FloatView {
-    FloatView {
-        base: half(base),
-        start: start as usize,
-        count: count as usize,
-    }
+    let base = half(base);
+    let start = start as usize;
+    let count = count as usize;
+    FloatView { base, start, count }
 }
 
 // A response; behind it the values of a Read's chunks, or the length of its payload.
 pub fn response(response: Responses) -> Answer {
-    let n = response_numbers(response);
-    let mut answer = said(n);
-    if n.a == 9 && n.e == 6 {
-        let values = place(n.f, n.g);
-        answer.values = values;
+    let mut n = response_numbers(response);
+    if n[0] == 9 && n[4] == 6 {
+        n[VALUES] = n[5];
+        n[VALUES_LEN] = n[6];
     }
-    answer
+    n
 }
 
-fn response_numbers(response: Responses) -> Numbers {
+fn response_numbers(response: Responses) -> Answer {
     match response {
-        Responses::Ack => of(1, 0, 0, 0),
-        Responses::ConfigChanged => of(2, 0, 0, 0),
-        Responses::Unk02 => of(3, 0, 0, 0),
+        Responses::Ack => number(1),
+        Responses::ConfigChanged => number(2),
+        Responses::Unk02 => number(3),
         Responses::MemoryData(view) => {
             let data = view.data;
             of_view(4, view.base, data.start, data.len, data.len)
@@ -242,15 +227,17 @@ fn response_numbers(response: Responses) -> Numbers {
         }
         Responses::HardwareId(id) => of(7, id.fw_major as u32, id.fw_minor as u32, id.hw_id as u32),
         Responses::FirLoadSize { size } => of(8, size as u32, 0, 0),
-        Responses::Read { addr, data } => of_addr(9, addr, values(data)),
+        Responses::Read { addr, data } => of_values(9, addr, values(data)),
     }
 }
 
-fn of_view(kind: u32, base: u16, start: usize, count: usize, bytes: usize) -> Numbers {
-    Numbers {
-        e: low(bytes),
-        ..of(kind, base as u32, low(start), low(count))
-    }
+fn of_view(kind: u32, base: u16, start: usize, count: usize, bytes: usize) -> Answer {
+    with(
+        of(kind, base as u32, low(start), low(count)),
+        low(bytes),
+        0,
+        0,
+    )
 }
 
 // The most that a payload has is 255 words.

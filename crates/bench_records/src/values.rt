@@ -25,7 +25,7 @@ pub fn value_of(kind: u32, a: u32, b: u32) -> Value {
     }
 }
 
-pub fn value(value: Value) -> Numbers {
+pub fn value(value: Value) -> Answer {
     match value {
         Value::Float(x) => of(1, to_bits(x), 0, 0),
         Value::FixedPoint(x) => of(2, x.to_u32(), 0, 0),
@@ -35,7 +35,7 @@ pub fn value(value: Value) -> Numbers {
     }
 }
 
-pub fn of_place(a: u32, place: Place) -> Numbers {
+pub fn of_place(a: u32, place: Place) -> Answer {
     of(a, low(place.start), low(place.len), 0)
 }
 
@@ -47,7 +47,7 @@ pub fn values_of(kind: u32, a: u32, b: u32) -> Values {
     Values::One(value_of(kind, a, b))
 }
 
-pub fn values(values: Values) -> Numbers {
+pub fn values(values: Values) -> Answer {
     match values {
         Values::Chunks(place) => of_place(6, place),
         Values::One(one) => value(one),

@@ -1,14 +1,12 @@
 // The words of the bench: one table of its verbs and names, and what is read and answered by it.
-// Every number that it has is of 32 bits.
-pub mod answer;
 pub mod read;
 pub mod table;
 
-pub use answer::Answer;
+use octets::Done;
 use octets::Place;
-pub use read::Words;
+use octets::Written;
 
-// Some numbers that stand one behind the other.
+// The first numbers of a request's words, one behind the other. Those of a record begin with c.
 pub struct Numbers {
     pub a: u32,
     pub b: u32,
@@ -17,25 +15,98 @@ pub struct Numbers {
     pub e: u32,
     pub f: u32,
     pub g: u32,
+    pub h: u32,
+    pub i: u32,
 }
 
-pub const NO_NUMBERS: Numbers = Numbers {
-    a: 0,
-    b: 0,
-    c: 0,
-    d: 0,
-    e: 0,
-    f: 0,
-    g: 0,
-};
-
-pub fn of(a: u32, b: u32, c: u32, d: u32) -> Numbers {
+// The numbers of all words from one on.
+pub fn numbers_from(all: [u32; 32], first: usize) -> Numbers {
+    let at = first % 24;
     Numbers {
-        a,
-        b,
-        c,
-        d,
-        ..NO_NUMBERS
+        a: all[at],
+        b: all[at + 1],
+        c: all[at + 2],
+        d: all[at + 3],
+        e: all[at + 4],
+        f: all[at + 5],
+        g: all[at + 6],
+        h: all[at + 7],
+        i: all[at + 8],
+    }
+}
+
+// The numbers of an answer's words.
+pub type Answer = [u32; 32];
+
+// Where an answer has the place of the values that stand behind its words, and the number of its row
+// in the list z, 0 for the request's own row.
+pub const VALUES: usize = 29;
+
+pub const VALUES_LEN: usize = 30;
+
+pub const FORM: usize = 31;
+
+// Some rows of the list z.
+const NONE: u32 = 3;
+
+const REFUSED: u32 = 4;
+
+const REFUSED_OUTPUT: u32 = 5;
+
+pub fn of(a: u32, b: u32, c: u32, d: u32) -> Answer {
+    let mut n = [0; 32];
+    n[0] = a;
+    n[1] = b;
+    n[2] = c;
+    n[3] = d;
+    n
+}
+
+// With three numbers behind the first four.
+pub fn with(mut n: Answer, e: u32, f: u32, g: u32) -> Answer {
+    n[4] = e;
+    n[5] = f;
+    n[6] = g;
+    n
+}
+
+pub fn number(n: u32) -> Answer {
+    of(n, 0, 0, 0)
+}
+
+// Put by a row of the list z.
+pub fn by(form: u32, mut n: Answer) -> Answer {
+    n[FORM] = form;
+    n
+}
+
+pub fn none() -> Answer {
+    by(NONE, number(0))
+}
+
+pub fn refused(k: u8) -> Answer {
+    by(REFUSED, number(k as u32))
+}
+
+// Of a function that writes: the whole output follows.
+pub fn written(answer: Written) -> Answer {
+    match answer {
+        Written::Bytes(n) => number(low(n)),
+        Written::Refused(k) => with_output(refused(k)),
+    }
+}
+
+pub fn with_output(answer: Answer) -> Answer {
+    if answer[FORM] == REFUSED {
+        return by(REFUSED_OUTPUT, answer);
+    }
+    answer
+}
+
+pub fn done(answer: Done) -> Answer {
+    match answer {
+        Done::Done => number(0),
+        Done::Refused(k) => refused(k),
     }
 }
 
@@ -61,6 +132,14 @@ pub fn place(start: u32, len: u32) -> Place {
 // The first so many bytes, or all of them.
 pub fn head(bytes: &[u8], n: u32) -> &[u8] {
     octets::part(bytes, place(0, n))
+}
+
+// The same of bytes that are lent to be written.
+pub fn front(bytes: &mut [u8], n: usize) -> &mut [u8] {
+    if bytes.len() < n {
+        return bytes;
+    }
+    &mut bytes[0..n]
 }
 
 // What stands from a place on, or all.

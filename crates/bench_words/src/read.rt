@@ -7,9 +7,7 @@ use octets::Written;
 use octets::number::byte;
 use text::*;
 
-// The most numbers that a request has, and the most words of the table that it takes to read one.
-pub const MOST_NUMBERS: usize = 32;
-
+// The most words of the table that it takes to read a request.
 const MOST_STEPS: usize = 64;
 
 // The most digits that a word of bytes has.
@@ -18,190 +16,168 @@ const LONGEST_WORD: usize = 2048;
 // Where the bytes of a request's second word of bytes stand; those of its first stand at 0.
 pub const SECOND_BYTES: u32 = 1024;
 
-// What is added to the number of a verb of the processor, where a verb is a word.
+// What is added to the number of a verb of the processor.
 pub const DEVICE_VERBS: usize = 1000;
 
 // The number that `@` goes on with.
 pub const SECOND_RECORD: usize = 20;
 
-// The number of its verb, 0 where it has none; the number of its first word behind the verb that is not
-// what it should be, 0 where there is none, and the letter of what that is; whether it is a good request to the processor; where the words
-// of its answer stand in the table; how much output it asks for, and its numbers.
+// Rows of the list z.
+const BAD_VERB: u32 = 1;
+
+const BAD_ARGUMENT: u32 = 2;
+
+const LONG_LINE: u32 = 12;
+
+const CR_LINE: u32 = 13;
+
+// A request: the number of its verb, 0 where it is bad, and its numbers are then what is answered;
+// where the words of its answer stand in the table, and how much output it asks for. And how far it is
+// read: where in its row and in its line, which of its words is next, where that one's bytes go, and how
+// many numbers there are.
 pub struct Words {
     pub verb: usize,
-    pub of_processor: bool,
-    pub bad: usize,
-    pub expected: u8,
     pub answer: usize,
     pub room: usize,
-    pub numbers: [u32; MOST_NUMBERS],
-}
-
-impl Words {
-    // Its numbers from one on.
-    pub fn from(self, first: usize) -> Numbers {
-        let numbers = self.numbers;
-        if MOST_NUMBERS - 7 < first {
-            return NO_NUMBERS;
-        }
-        Numbers {
-            a: numbers[first],
-            b: numbers[first + 1],
-            c: numbers[first + 2],
-            d: numbers[first + 3],
-            e: numbers[first + 4],
-            f: numbers[first + 5],
-            g: numbers[first + 6],
-        }
-    }
-}
-
-// How far a request is read: where in its row and in its line, which of its words is next, where that
-// one's bytes go, and how many numbers there are; the others are as in Words.
-struct Reading {
+    pub numbers: Answer,
     walk: Walk,
     at: usize,
-    word: usize,
+    word: u32,
     place: usize,
     count: usize,
-    bad: usize,
-    expected: u8,
-    answer: usize,
-    room: usize,
-    numbers: [u32; MOST_NUMBERS],
 }
 
-// Reads a request, and puts its bytes into `bytes`.
-pub fn read(line: &[u8], bytes: &mut [u8]) -> Words {
+// Reads a request, and puts its bytes into `bytes`. A line that is too long has lost its start.
+pub fn read(line: &[u8], long: bool, bytes: &mut [u8]) -> Words {
+    if long {
+        return begun(row_of(0, 0, 0, 0), LONG_LINE, 0);
+    }
+    if 0 < line.len() && line[line.len() - 1] == b'\r' {
+        return begun(row_of(0, 0, 0, 0), CR_LINE, 0);
+    }
     // a function that names the table is dear to check: the others are lent it
     read_in(&TABLE, line, bytes)
 }
 
 fn read_in(table: &[u8], line: &[u8], bytes: &mut [u8]) -> Words {
-    let row = find(table, b'a', 0, first(line));
-    if row.number == 0 {
-        let row = find(table, b'd', 0, first(line));
-        return read_by(table, row, true, line, bytes);
-    }
-    read_by(table, row, false, line, bytes)
-}
-
-fn read_by(table: &[u8], row: Row, of_processor: bool, line: &[u8], bytes: &mut [u8]) -> Words {
-    let mut reading = begun(row.words, word_end(line));
+    let mut words = begun(verb_row(table, first(line)), BAD_VERB, word_end(line));
     let mut steps = 0;
     while steps < MOST_STEPS {
-        reading = one_more(table, reading, line, bytes);
+        words = one_more(table, words, line, bytes);
         steps += 1;
     }
-    let numbers = reading.numbers;
-    let good = 0 < row.number && reading.bad == 0;
-    Words {
-        verb: row.number,
-        of_processor: of_processor && good,
-        bad: reading.bad,
-        expected: reading.expected,
-        answer: reading.answer,
-        room: reading.room,
-        numbers,
+    words
+}
+
+// A verb's row, with its number over both lists.
+fn verb_row(table: &[u8], word: &[u8]) -> Row {
+    let row = find(table, b'd', 0, word);
+    if row.number == 0 {
+        return find(table, b'a', 0, word);
+    }
+    Row {
+        number: row.number % DEVICE_VERBS + DEVICE_VERBS,
+        ..row
     }
 }
 
-fn begun(row: usize, at: usize) -> Reading {
-    let walk = walk_from(row);
-    Reading {
+// Where there is no verb, nothing is read and `bad` is answered.
+fn begun(row: Row, bad: u32, at: usize) -> Words {
+    let walk = walk_from(row.words);
+    let numbers = by(bad, number(0));
+    Words {
+        verb: row.number,
+        answer: 0,
+        room: 0,
+        numbers,
         walk,
         at,
         word: 1,
         place: 0,
         count: 0,
-        bad: 0,
-        expected: 0,
-        answer: 0,
-        room: 0,
-        numbers: [0; MOST_NUMBERS],
     }
 }
 
 // Reads one word more; once all are read, or one is bad, the table has no more.
-fn one_more(table: &[u8], mut reading: Reading, line: &[u8], bytes: &mut [u8]) -> Reading {
-    let walk = reading.walk;
+fn one_more(table: &[u8], mut words: Words, line: &[u8], bytes: &mut [u8]) -> Words {
+    let walk = words.walk;
     let next = walk.next(table);
     let word = next.word;
     if word.len == 0 {
-        return reading;
+        return words;
     }
-    reading.walk = next;
+    words.walk = next;
     match byte(table, word.start) {
-        b'>' => answered_at(reading, next.leave(), next.passed),
-        b'_' => with(reading, 0),
-        b'@' => Reading {
+        b'>' => answered_at(words, next.leave(), next.passed),
+        b'_' => with_number(words, 0),
+        b'@' => Words {
             count: SECOND_RECORD,
-            ..reading
+            ..words
         },
-        b'!' => with(
-            Reading {
-                room: 1024,
-                ..reading
-            },
-            0,
-        ),
-        letter => one_word(table, reading, letter, line, bytes),
+        b'!' => with_number(with_room(words, 1024), 0),
+        letter => one_word(table, words, letter, line, bytes),
     }
 }
 
-fn answered_at(mut reading: Reading, walk: Walk, answer: usize) -> Reading {
-    reading.walk = walk;
-    reading.answer = answer;
-    reading
+fn answered_at(mut words: Words, walk: Walk, answer: usize) -> Words {
+    words.walk = walk;
+    words.answer = answer;
+    words
+}
+
+fn with_room(mut words: Words, room: usize) -> Words {
+    words.room = room;
+    words
 }
 
 // At a word that is not what its letter says, nothing more is read.
-fn stopped(mut reading: Reading, letter: u8) -> Reading {
+fn stopped(mut words: Words, letter: u8) -> Words {
     let walk = walk_from(0);
-    reading.walk = walk;
-    reading.bad = reading.word;
-    reading.expected = letter;
-    reading
+    let numbers = by(BAD_ARGUMENT, of(words.word, letter as u32, 0, 0));
+    words.walk = walk;
+    words.numbers = numbers;
+    words.verb = 0;
+    words
 }
 
 // With one number more.
-fn with(mut reading: Reading, number: u32) -> Reading {
-    let n = reading.count;
-    if n < MOST_NUMBERS {
-        reading.numbers[n] = number;
-        reading.count = n + 1;
+fn with_number(mut words: Words, number: u32) -> Words {
+    let n = words.count;
+    if n < 32 {
+        words.numbers[n] = number;
+        words.count = n + 1;
     }
-    reading
+    words
 }
 
-fn one_word(table: &[u8], reading: Reading, letter: u8, line: &[u8], bytes: &mut [u8]) -> Reading {
-    let at = reading.at;
+fn one_word(table: &[u8], words: Words, letter: u8, line: &[u8], bytes: &mut [u8]) -> Words {
+    let at = words.at;
     if line.len() < at {
-        return reading;
+        return words;
     }
     let rest = &line[at..];
-    let got = word_by(table, letter, first(rest), from_place(bytes, reading.place));
-    behind_word(reading, letter, got, at + word_end(rest))
+    let got = word_by(table, letter, first(rest), from_place(bytes, words.place));
+    behind_word(words, letter, got, at + word_end(rest))
 }
 
-fn behind_word(mut reading: Reading, letter: u8, got: Got, end: usize) -> Reading {
+fn behind_word(mut words: Words, letter: u8, got: Got, end: usize) -> Words {
     if !got.good {
-        return stopped(reading, letter);
+        return stopped(words, letter);
     }
-    let walk = reading.walk;
+    let walk = words.walk;
     let next = walk.into_row(got.row);
-    reading.walk = next;
-    reading.at = end;
-    if reading.word < MOST_STEPS {
-        reading.word += 1;
+    words.walk = next;
+    words.at = end;
+    if words.word < 64 {
+        words.word += 1;
     }
     match letter {
-        b'r' => reading.room = got.number as usize,
-        b'q' => reading.room = got.number as usize * 4,
-        b'x' => reading.place = SECOND_BYTES as usize,
+        b'r' => words.room = got.number as usize,
+        b'q' => words.room = got.number as usize * 4,
+        b'x' => words.place = SECOND_BYTES as usize,
         _ => (),
     }
-    with(reading, got.number)
+    with_number(words, got.number)
 }
 
 // What a word is by its letter: a number, and where it is a name, where the words of its row begin.
@@ -224,43 +200,26 @@ fn word_by(table: &[u8], letter: u8, word: &[u8], bytes: &mut [u8]) -> Got {
     }
 }
 
+fn found(good: bool, number: u32, row: usize) -> Got {
+    Got { good, number, row }
+}
+
 fn of_name(table: &[u8], list: u8, word: &[u8]) -> Got {
     let row = find(table, list, 0, word);
-    Got {
-        good: 0 < row.number,
-        number: low(row.number),
-        row: row.words,
-    }
+    found(0 < row.number, low(row.number), row.words)
 }
 
 fn of_number(read: Number, most: u32) -> Got {
     match read {
-        Number::Is(number) => Got {
-            good: number <= most,
-            number,
-            row: 0,
-        },
-        Number::Bad => Got {
-            good: false,
-            number: 0,
-            row: 0,
-        },
+        Number::Is(n) => found(n <= most, n, 0),
+        Number::Bad => found(false, 0, 0),
     }
 }
 
-// A verb's number, and none for no word.
+// A verb's number, and 0 for no word.
 fn of_verb(table: &[u8], word: &[u8]) -> Got {
-    let of_device = find(table, b'd', 0, word);
-    if 0 < of_device.number {
-        let number = low(of_device.number % 1000 + DEVICE_VERBS);
-        return of_number(Number::Is(number), 0xffff_ffff);
-    }
-    let of_codec = find(table, b'a', 0, word);
-    Got {
-        good: 0 < of_codec.number || word.len() == 0,
-        number: low(of_codec.number),
-        row: 0,
-    }
+    let row = verb_row(table, word);
+    found(0 < row.number || word.len() == 0, low(row.number), 0)
 }
 
 // One digit alone.

@@ -12,7 +12,8 @@
 //   x BYTES   p BYTES in pairs   r ROOM   q ROOM for so many words   n NUMBER   m NUMBER to 65,537
 //   h NUMBER to 65,535   k NUMBER to 1,048,576   b NUMBER to 255   t BIT   w WORD   f NAME of a file
 //   v VERB or nothing
-//   and without a word: _ a number   @ the next number is that of place 20   ! all the ROOM there is
+//   and without a word: _ a number, so that a record begins with the third   @ the next number is that of
+//   place 20   ! all the ROOM there is
 //
 // In an answer a word of more than one byte stands for itself, a name that is none is `none`, and
 //   n NUMBER   w WORD   c one byte   x the whole output   y its first bytes   q its first words
@@ -24,7 +25,7 @@ ghost use lib.ListN.{length};
 use octets::Place;
 use octets::number::byte;
 
-pub const TABLE: [u8; 4658] = *b"a checksum x > c
+pub const TABLE: [u8; 4734] = *b"a checksum x > c
 a frame x r > n x
 a plain|strict x > p
 a from_f32|to_f32|float w > w
@@ -51,9 +52,9 @@ a read_u8|read_u16 x h n n h > n
 a get x h n n h > w
 a join_memory|join_floats x h n n x h n n r > n n n x
 a response x > R
-a is R > memory_view n float_view n hardware_id n ack n config_changed n fir_size n
-a into I R
-a matches C @ R > n
+a is _ _ R > memory_view n float_view n hardware_id n ack n config_changed n fir_size n
+a into I _ R
+a matches _ _ C @ _ _ R > n
 a values x V > n ; V
 a value_number x n V > U
 a encode_response|encode_response_frame x r R > n x
@@ -138,6 +139,8 @@ z no_file bad file: cannot be opened
 z not_written bad file: cannot be written
 z not_read bad file: cannot be read
 z long_file bad file: longer than 1048576 bytes
+z long_line bad line: too long
+z cr_line bad line: ends in CR
 e x BYTES, pairs of hexadecimal digits, or - for none
 e p BYTES, two for each address, or - for none
 e r ROOM, a number to 1024
@@ -218,7 +221,7 @@ pub fn find(table: &[u8], list: u8, number: usize, name: &[u8]) -> Row {
     row_of(0, 0, 0, 0)
 }
 
-fn row_of(number: usize, start: usize, len: usize, words: usize) -> Row {
+pub fn row_of(number: usize, start: usize, len: usize, words: usize) -> Row {
     let name = Place { start, len };
     Row {
         number,

@@ -8,10 +8,10 @@ use Rattle.bench.proofs.console.serve.Statement.{statement}
 use Rattle.bench.proofs.console.serve.Tie as tie
 
 abbrev Inv-loop : tie.InvT-loop
-Inv-loop input₀ eeprom₀ settings₀ kept₀ state₀ lines₀ turns₀ input eeprom settings kept state lines turns = (length input ≡ length input₀) × (length eeprom ≡ length eeprom₀) × (length settings ≡ length settings₀) × (length kept ≡ length kept₀) × (lines .used ≤ lines .have) × (lines .have ≤ length input)
+Inv-loop input₀ eeprom₀ settings₀ kept₀ held₀ lines₀ turns₀ input eeprom settings kept held lines turns = (length input ≡ length input₀) × (length eeprom ≡ length eeprom₀) × (length settings ≡ length settings₀) × (length kept ≡ length kept₀) × (lines .used ≤ lines .have) × (lines .have ≤ length input)
 
 abbrev μ-loop : tie.MeasureT-loop
-μ-loop input₀ eeprom₀ settings₀ kept₀ state₀ lines₀ turns₀ input eeprom settings kept state lines turns = turns
+μ-loop input₀ eeprom₀ settings₀ kept₀ held₀ lines₀ turns₀ input eeprom settings kept held lines turns = turns
 
 loop-again-2 : tie.Need-loop-again-2 Inv-loop μ-loop
 loop-again-2 c = let h = c .before .before .before .before .before .before .before .before .before .before .before .before .before .before .before .before .before .before .before .before .loop .inv in (search needs, search needs, search needs, search needs, search needs, omega (arith, h, c .behind-line .ensures))

@@ -1,33 +1,21 @@
--- As many as there are, and 32 at most.
-use Prim.Native.Nat.{ℕ, _-_}
+-- Each number before i is put.
+use Prim.Native.Nat.{ℕ, _+_, _-_, _≤_}
 use mathlib.Core.Path.{_≡_}
-use lib.ListN.{length, length-set}
+use lib.ListN.{length}
+use lib.ListN.{length-set}
 use borrow.Author.Needs.{needs}
 use Rattle.bench_codec.proofs.on_facts.each.Statement.{statement}
 use Rattle.bench_codec.proofs.on_facts.each.Tie as tie
 
 abbrev Inv-loop : tie.InvT-loop
-Inv-loop all answer numbers₀ i₀ numbers i = length numbers ≡ 32
+Inv-loop all n₀ i₀ n i = (i ≤ length all) × (length n ≡ 32)
 
 abbrev μ-loop : tie.MeasureT-loop
-μ-loop all answer numbers₀ i₀ numbers i = length all - i
-
-loop-again : tie.Need-loop-again Inv-loop μ-loop
-loop-again c = simp length-set (search needs)
+μ-loop all n₀ i₀ n i = length all - i
 
 pub each-spec : {M : Type 1} → statement M
 each-spec =
     tie.close
-    (tie.spec
-    Inv-loop
-    μ-loop
-    (λ c κs. search needs)
-    (λ c. search needs)
-    (λ c κs. search needs)
-    (λ c. search needs)
-    (λ c. search needs)
-    (λ c. search needs)
-    (λ c. search needs)
-    (λ c. search needs)
-    loop-again
-    (λ c. search needs))
+    (tie.spec Inv-loop μ-loop (λ c κs. search needs) (λ c. search needs) (λ c. search needs) (λ c. search needs) (λ c κs. search needs)
+    (λ c. search needs) (λ c. search needs) (λ c. search needs) (λ c. search needs) (λ c. simp length-set (search needs))
+    (λ c. search needs) (λ c. search needs))
