@@ -49,18 +49,28 @@ pub struct Words {
 
 // Reads a request, and puts its bytes into `bytes`. A line that is too long has lost its start.
 pub fn read(line: &[u8], long: bool, bytes: &mut [u8]) -> Words {
-    if long {
-        return begun(row_of(0, 0, 0, 0), LONG_LINE, 0);
-    }
-    if 0 < line.len() && line[line.len() - 1] == b'\r' {
-        return begun(row_of(0, 0, 0, 0), CR_LINE, 0);
-    }
     // a function that names the table is dear to check: the others are lent it
-    read_in(&TABLE, line, bytes)
+    read_in(&TABLE, line, long, bytes)
 }
 
-fn read_in(table: &[u8], line: &[u8], bytes: &mut [u8]) -> Words {
-    let mut words = begun(verb_row(table, first(line)), BAD_VERB, word_end(line));
+fn read_in(table: &[u8], line: &[u8], long: bool, bytes: &mut [u8]) -> Words {
+    if long {
+        return begun(0, 0, LONG_LINE, 0);
+    }
+    if 0 < line.len() && line[line.len() - 1] == b'\r' {
+        return begun(0, 0, CR_LINE, 0);
+    }
+    let row = verb_row(table, first(line));
+    read_words(
+        table,
+        begun(row.number, row.words, BAD_VERB, word_end(line)),
+        line,
+        bytes,
+    )
+}
+
+fn read_words(table: &[u8], begun: Words, line: &[u8], bytes: &mut [u8]) -> Words {
+    let mut words = begun;
     let mut steps = 0;
     while steps < MOST_STEPS {
         words = one_more(table, words, line, bytes);
@@ -82,11 +92,11 @@ fn verb_row(table: &[u8], word: &[u8]) -> Row {
 }
 
 // Where there is no verb, nothing is read and `bad` is answered.
-fn begun(row: Row, bad: u32, at: usize) -> Words {
-    let walk = walk_from(row.words);
+fn begun(verb: usize, row: usize, bad: u32, at: usize) -> Words {
+    let walk = walk_from(row);
     let numbers = by(bad, number(0));
     Words {
-        verb: row.number,
+        verb,
         answer: 0,
         room: 0,
         numbers,

@@ -221,7 +221,7 @@ pub fn find(table: &[u8], list: u8, number: usize, name: &[u8]) -> Row {
     row_of(0, 0, 0, 0)
 }
 
-pub fn row_of(number: usize, start: usize, len: usize, words: usize) -> Row {
+fn row_of(number: usize, start: usize, len: usize, words: usize) -> Row {
     let name = Place { start, len };
     Row {
         number,
