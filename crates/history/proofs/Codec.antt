@@ -19,7 +19,7 @@ use Rattle.octets.specs.declared.Place.{Place}
 use Rattle.octets.proofs.Choosing.{lt-or-le, below, above, same, other, either-lt, either-eq, refused-accepted, was-above, was-other, was-same}
 use Rattle.octets.proofs.InBytes.{past, little-behind}
 use Rattle.octets.proofs.Parts.{is-inside}
-use Rattle.packet.specs.Receipt.{lengthByte, plainOf, strictOf}
+use Rattle.packet.specs.Receipt.{lengthByte, plainOf, exactOf}
 use Rattle.fields.specs.Addr.{addrAt}
 use Rattle.fields.specs.Value.{valueAt, valueBytes, valueOutside}
 use Rattle.fields.specs.Row.{packetOf}
@@ -38,8 +38,8 @@ use Rattle.device.specs.Names.{names}
 use Rattle.processor.specs.declared.Device.{Device}
 use Rattle.streams.specs.Means.{packetMeans, frameMeans, memoryMeans, wordMeans}
 
-pub strict-plain : (frame : List ℕ) {place : Place} → strictOf frame ≡ accepted place → plainOf frame ≡ accepted place
-strict-plain frame h =
+pub exact-plain : (frame : List ℕ) {place : Place} → exactOf frame ≡ accepted place → plainOf frame ≡ accepted place
+exact-plain frame h =
     let begun = was-other _ _ _ _ h in
     let long = was-above _ _ _ _ (begun .1) in
     let ended = was-above _ _ _ _ (long .1) in
@@ -150,10 +150,10 @@ module _ (e s : ℕ) (frame : List ℕ) (octets : Octets frame) (w : Store) wher
 
   pub frame-command : frameMeans e s frame ≡ accepted w → Sends e s frame w
   unfolding frameMeans
-  frame-command = go (strictOf frame) refl
+  frame-command = go (exactOf frame) refl
     where
-      go : (o : Outcome Place) → strictOf frame ≡ o → andThen o (λ (place : Place). packetMeans e s (partOf frame place)) ≡ accepted w → Sends e s frame w
+      go : (o : Outcome Place) → exactOf frame ≡ o → andThen o (λ (place : Place). packetMeans e s (partOf frame place)) ≡ accepted w → Sends e s frame w
       go (refused k) q h = absurd (refused-accepted h)
       go (accepted place) q h =
-          let plain = strict-plain frame q in
+          let plain = exact-plain frame q in
           record { place = place; receives = plain; puts = means-command e s (partOf frame place) (packet-short place plain) (part-octets frame place octets) w h }

@@ -10,7 +10,7 @@ use Rattle.octets.specs.Number.{at, bigAt, littleAt, bigBytes, littleBytes}
 use Rattle.octets.proofs.Choosing.{below, above, same, other}
 use Rattle.octets.proofs.InBytes.{little-behind, little-back}
 use Rattle.packet.specs.Frame.{frameOf}
-use Rattle.packet.proofs.Inverse.{strict-of-frame, packet-of-frame}
+use Rattle.packet.proofs.Inverse.{exact-of-frame, packet-of-frame}
 use Rattle.fields.specs.Addr.{addrAt}
 use Rattle.processor.specs.Memory.{Memory, Store, toEeprom, toSettings}
 use Rattle.saves.specs.Save.{memoryPacket, wordPacket, blocks}
@@ -45,7 +45,7 @@ module _ (e s : ℕ) where
 
   frame-means : (p : List ℕ) → frameMeans e s (frameOf p) ≡ packetMeans e s p
   unfolding frameMeans
-  frame-means p = rw (strict-of-frame p, packet-of-frame p)
+  frame-means p = rw (exact-of-frame p, packet-of-frame p)
 
   -- ---- one frame behind the other
   all-append : (a b : List (List ℕ)) → allMean e s (a ++ b) ≡ andThen (allMean e s a) (λ (x : List Store). andThen (allMean e s b) (λ (y : List Store). accepted (x ++ y)))

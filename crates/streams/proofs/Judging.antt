@@ -12,7 +12,7 @@ use Rattle.octets.specs.Place.{partOf}
 use Rattle.octets.specs.declared.Place.{Place}
 use Rattle.octets.proofs.Choosing.{same, other, if-of, if-eq-of, was-above, was-other}
 use Rattle.packet.specs.Frame.{checksumOf}
-use Rattle.packet.specs.Receipt.{lengthByte, packetAt, strictOf}
+use Rattle.packet.specs.Receipt.{lengthByte, packetAt, exactOf}
 use Rattle.processor.specs.Memory.{Store}
 use Rattle.streams.specs.Stream.{contentOf, behind, tagOf, streamOf, endOf, packetIn}
 use Rattle.streams.specs.Means.{packetMeans, frameMeans, allMean}
@@ -71,15 +71,15 @@ module _ (f : List ℕ) where
   abbrev pub summed : {A : Type 0} → Outcome A → Outcome A
   summed o = ifEq (checksumOf (take (lengthByte f) f)) (getD f (lengthByte f) 0) o (refused wrongChecksum)
 
-  strict-is : strictOf f ≡ andThen (receiptOf f) (λ u. summed (packetAt f))
-  strict-is = sym (if-eq-of go _ _ _ _ ∙ ap (ifEq (lengthByte f) 0 (refused 1)) (if-of go _ _ _ _ ∙ ap (ifLt (length f) (lengthByte f + 1) (refused 2)) (if-of go _ _ _ _)))
+  exact-is : exactOf f ≡ andThen (receiptOf f) (λ u. summed (packetAt f))
+  exact-is = sym (if-eq-of go _ _ _ _ ∙ ap (ifEq (lengthByte f) 0 (refused 1)) (if-of go _ _ _ _ ∙ ap (ifLt (length f) (lengthByte f + 1) (refused 2)) (if-of go _ _ _ _)))
     where
       go : Outcome Unit → Outcome Place
       go o = andThen o (λ u. summed (packetAt f))
 
   pub frame-is : (e s : ℕ) → frameMeans e s f ≡ andThen (receiptOf f) (λ u. summed (packetMeans e s (packetIn f)))
   unfolding frameMeans
-  frame-is e s = rw strict-is (go (receiptOf f))
+  frame-is e s = rw exact-is (go (receiptOf f))
     where
       meant : Outcome Place → Outcome Store
       meant o = andThen o (λ (place : Place). packetMeans e s (partOf f place))

@@ -16,7 +16,7 @@ use Rattle.streams.specs.Means.{packetMeans}
 abbrev pub noFault : {A : Type 0} → Outcome A → Outcome Unit
 noFault = onAccepted (λ a. tt)
 
--- strict receipt without the checksum
+-- exact receipt without the checksum
 abbrev pub receiptOf : List ℕ → Outcome Unit
 receiptOf frame =
     ifEq (lengthByte frame) 0 (refused empty)

@@ -9,7 +9,7 @@ use Rattle.octets.specs.Number.{at, bigAt, littleAt}
 use Rattle.octets.specs.Place.{partOf}
 use Rattle.octets.specs.Reading.{rest}
 use Rattle.octets.specs.declared.Place.{Place}
-use Rattle.packet.specs.Receipt.{strictOf}
+use Rattle.packet.specs.Receipt.{exactOf}
 use Rattle.fields.specs.Addr.{addrAt}
 use Rattle.commands.specs.Decode.{r}
 use Rattle.processor.specs.Memory.{Store, toEeprom, toSettings}
@@ -33,9 +33,9 @@ packetMeans e s p =
     (ifEq (at p 0) 0x04 (ifLt (r p) 2 (refused ends) (memoryMeans e p))
     (ifEq (at p 0) 0x13 (ifLt (r p) 2 (refused ends) (ifEq (r p) 7 (wordMeans s p) (refused wrongField))) (refused wrongField)))
 
--- "frame by strict receipt"
+-- "frame by strict receipt", which inside a save stays the exact one
 unfoldable pub frameMeans : ℕ → ℕ → List ℕ → Outcome Store
-frameMeans e s frame = andThen (strictOf frame) (λ (place : Place). packetMeans e s (partOf frame place))
+frameMeans e s frame = andThen (exactOf frame) (λ (place : Place). packetMeans e s (partOf frame place))
 
 -- "the first fault going forward"
 abbrev pub allMean : ℕ → ℕ → List (List ℕ) → Outcome (List Store)

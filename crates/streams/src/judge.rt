@@ -105,7 +105,7 @@ fn scan(fields: &[u8], e: usize, s: usize) -> Done
     }
 }
 
-// Strict receipt of a frame, but for its checksum.
+// Exact receipt of a frame, but for its checksum.
 fn receipt(frame: &[u8]) -> Done
     ensures { λ r. ⌜ done r ≡ receiptOf (now (frame .entry)) ⌝ }
 {
