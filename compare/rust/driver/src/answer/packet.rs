@@ -12,7 +12,8 @@ pub fn answer(verb: &str, args: &[&str]) -> Option<String> {
         "checksum" => format!("{:02X}", packet::checksum(bytes(args[0]))),
         "frame" => frame(&bytes(args[0]), number(args[1])),
         "plain" => plain(bytes(args[0])),
-        "strict" => strict(&bytes(args[0])),
+        "strict" => received(strictly(&bytes(args[0]))),
+        "exact" => received(exactly(&bytes(args[0]))),
         _ => return None,
     })
 }
@@ -32,15 +33,23 @@ fn plain(frame: Vec<u8>) -> String {
     }
 }
 
-fn strict(frame: &[u8]) -> String {
-    match strictly(frame) {
+fn received(packet: Result<&[u8], u8>) -> String {
+    match packet {
         Ok(packet) => format!("1 {} {}", packet.len(), hex(packet)),
         Err(number) => refused(number),
     }
 }
 
-/// Strict receipt is added: read from document 01, since the Rust has none.
-pub fn strictly(frame: &[u8]) -> Result<&[u8], u8> {
+/// Strict receipt is added: read from documents 01 and 02, since the Rust has none. A report of 64 bytes may have filler.
+fn strictly(bytes: &[u8]) -> Result<&[u8], u8> {
+    match bytes.first() {
+        Some(&length) if bytes.len() == 64 => exactly(&bytes[..64.min(length as usize + 1)]),
+        _ => exactly(bytes),
+    }
+}
+
+/// Strict receipt as document 01 has it, which a save still asks for: nothing follows the checksum.
+pub fn exactly(frame: &[u8]) -> Result<&[u8], u8> {
     let length = frame.first().map_or(0, |&byte| byte as usize);
     if length == 0 {
         return Err(1);

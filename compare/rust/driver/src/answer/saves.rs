@@ -7,7 +7,7 @@ use minidsp_protocol::{
     packet,
 };
 
-use super::{device::caught, packet::strictly};
+use super::{device::caught, packet::exactly};
 
 /// Tag, length and content.
 fn field(tag: u8, content: &[u8]) -> Vec<u8> {
@@ -66,7 +66,7 @@ pub fn run(mock: &mut MockDevice, fields: &[u8]) -> Result<(), u8> {
     loop {
         let (tag, content, behind) = take(rest)?;
         match tag {
-            0x10 => execute(mock, strictly(content)?)?,
+            0x10 => execute(mock, exactly(content)?)?,
             0x7F if content.len() == 4 && number(content) == frames && behind.is_empty() => return Ok(()),
             _ => return Err(13),
         }
