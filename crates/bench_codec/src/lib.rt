@@ -8,7 +8,8 @@ mod on_views;
 
 use bench_words::*;
 
-// Answers a request, whose first numbers are n and all of them `all`. Its bytes lie in `bytes`; what it writes goes to `out`.
+// Answers a request, whose first numbers are n, and all of them `all`. Its bytes lie in `bytes`; what it
+// writes goes to `out`.
 pub fn ask(verb: usize, n: Numbers, all: [u32; 32], bytes: &[u8], out: &mut [u8]) -> Answer {
     match verb {
         1..=9 => on_packet::ask(verb, n, bytes, out),
@@ -16,6 +17,7 @@ pub fn ask(verb: usize, n: Numbers, all: [u32; 32], bytes: &[u8], out: &mut [u8]
         14..=18 => on_commands::ask(verb, n, all, bytes, out),
         19..=26 => on_facts::ask(verb, n),
         27..=32 => on_views::ask(verb, n, bytes, out),
+        44 => on_packet::ask(verb, n, bytes, out),
         _ => on_responses::ask(verb, n, all, bytes, out),
     }
 }

@@ -17,6 +17,7 @@ pub fn ask(verb: usize, n: Numbers, bytes: &[u8], out: &mut [u8]) -> Answer {
         6 => number(to_bits(FixedPoint::from_u32(n.a).to_f32())),
         7 => number(to_bits(from_bits(n.a))),
         8 => number(Gain(from_bits(n.a)).to_u8() as u32),
+        44 => received(packet::unframe_exact(packet)),
         _ => number(to_bits(Gain::from_u8(byte(n.a)).0)),
     }
 }

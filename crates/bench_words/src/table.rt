@@ -25,7 +25,7 @@ ghost use lib.ListN.{length};
 use octets::Place;
 use octets::number::byte;
 
-pub const TABLE: [u8; 4734] = *b"a checksum x > c
+pub const TABLE: [u8; 4791] = *b"a checksum x > c
 a frame x r > n x
 a plain|strict x > p
 a from_f32|to_f32|float w > w
@@ -61,6 +61,7 @@ a encode_response|encode_response_frame x r R > n x
 a status b b x h n n > preset o source S volume f mute o dirac o
 a why b > i
 a help v > v
+a exact x > p
 d lend m m > done
 d bare b b K h > n n n n K n
 d new b b K h p > n n n n K n
@@ -173,7 +174,7 @@ i 6 the output is shorter than the whole result
 i 7 an address, a place or a part lies outside the memory, the view or the payload
 i 8 an address has another length than 2 or 3
 i 9 strict receipt: the checksum differs
-i 10 strict receipt: bytes follow the checksum
+i 10 strict receipt: bytes follow the checksum, in a save or where they are not 64 in all
 i 11 the joined views do not adjoin
 i 12 the response is not of the kind asked for
 i 13 the save has a wrong field, order, kind or count
