@@ -1,6 +1,7 @@
-"""Saves as document 01 has them, read once more in another language: a writer, a reader and the listing."""
+"""Receipt and saves as documents 01 and 02 have them, read once more in another language: a writer, a reader and the listing."""
 
 MOST = 65536
+REPORT = 64
 
 
 class Refused(Exception):
@@ -49,17 +50,31 @@ def take(stream, at):
     return stream[at], stream[at + 3:stop], stop
 
 
-def strict(received):
+def plain(received):
     if not received or received[0] == 0:
         raise Refused(1)
-    whole = received[0] + 1
-    if len(received) < whole:
+    if len(received) < received[0]:
         raise Refused(2)
-    if len(received) > whole:
+    return received[1:received[0]]
+
+
+def strict(received, in_save=False):
+    """The packet; behind the checksum there may be filler, of any content, where 64 bytes were received, but not in a save."""
+    if not received or received[0] == 0:
+        raise Refused(1)
+    last = received[0]
+    if len(received) < last + 1:
+        raise Refused(2)
+    if len(received) > last + 1 and (in_save or len(received) != REPORT):
         raise Refused(10)
-    if sum(received[:-1]) % 256 != received[-1]:
+    if sum(received[:last]) % 256 != received[last]:
         raise Refused(9)
-    return received[1:-1]
+    return received[1:last]
+
+
+def exact(received):
+    """Strict receipt as a save asks for it."""
+    return strict(received, in_save=True)
 
 
 def meant(packet, e, s):
@@ -100,7 +115,7 @@ def read(stream, sizes=None):
             return own, writes
         if tag != 0x10:
             raise Refused(13)
-        writes.append(meant(strict(content), *own))
+        writes.append(meant(exact(content), *own))
 
 
 def listed(stream):
