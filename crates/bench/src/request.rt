@@ -2,6 +2,7 @@
 use crate::files;
 use crate::held;
 use crate::held::*;
+use bench_records::values::put_each;
 use bench_words::read::*;
 use bench_words::*;
 use libc::STDOUT_FILENO;
@@ -54,14 +55,12 @@ fn of_codec(words: Words, bytes: &[u8]) {
 fn print(answer: Answer, words: Words, bytes: &[u8], lent: &[u8]) {
     let mut output = [0u8; 131072];
     let all = words.numbers;
+    let given = head(bytes, all[0]);
     let shown = head(lent, low(words.room));
-    let end = bench_answers::put(
-        answer,
-        words.answer,
-        head(bytes, all[0]),
-        shown,
-        &mut output,
-    );
+    let values = place(answer[VALUES], answer[VALUES_LEN]);
+    let end = bench_answers::put(answer, words.answer, given, shown, &mut output, 0);
+    let end = put_each(values, given, &mut output, end);
+    let end = bench_answers::put_end(&mut output, end);
     io::write_all(STDOUT_FILENO, &output[0..end]);
 }
 

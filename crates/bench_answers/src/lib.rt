@@ -2,20 +2,14 @@
 // becomes the line end.
 ghost use Prim.Native.Nat.{_≤_};
 ghost use lib.ListN.{length};
-use bench_records::values::value;
 use bench_words::read::*;
 use bench_words::table::*;
 use bench_words::*;
-use fields::value::*;
 use octets::Place;
 use octets::Written;
 use octets::number::byte as byte_at;
-use responses::Values;
 
-// The row of the list z for a value alone.
-const VALUE: u32 = 6;
-
-// More words than any answer has but for values in chunks.
+// More words than any answer has but for the values behind it.
 const MOST_WORDS: usize = 64;
 
 // How far an answer is put: where in its row, how many of its numbers, and where its text ends.
@@ -25,29 +19,26 @@ struct Putting {
     end: usize,
 }
 
-// Puts an answer and a line end at the start of `out`, and answers how many bytes those take: none
-// where they have no room. The words of the request's own answer stand at `own` in the table; `bytes` are
-// those of the request, `lent` the output of its call.
-pub fn put(answer: Answer, own: usize, bytes: &[u8], lent: &[u8], out: &mut [u8]) -> usize
-    ensures { λ r. ⌜ r ≤ length (now (out .entry)) ⌝ }
-{
-    // a function that names the table is dear to check: the others are lent it
-    put_by(&TABLE, answer, own, bytes, lent, out)
-}
-
-fn put_by(
-    table: &[u8],
+// Puts the words of an answer behind the first `at` bytes of `out`, and answers where they end: a word
+// that has no room is left out. The words of the request's own answer stand at `own` in the table; `bytes`
+// are those of the request, `lent` the output of its call.
+pub fn put(
     answer: Answer,
     own: usize,
     bytes: &[u8],
     lent: &[u8],
     out: &mut [u8],
-) -> usize
+    at: usize,
+) -> usize {
+    // a function that names the table is dear to check: the others are lent it
+    put_words(&TABLE, answer, own, bytes, lent, out, at)
+}
+
+// Puts a line end in place of the last space, and answers how many bytes the line has: none where there
+// is no word.
+pub fn put_end(out: &mut [u8], end: usize) -> usize
     ensures { λ r. ⌜ r ≤ length (now (out .entry)) ⌝ }
 {
-    let end = put_words(table, answer, own, bytes, lent, out, 0);
-    let values = place(answer[VALUES], answer[VALUES_LEN]);
-    let end = put_each(table, values, bytes, out, end);
     if end == 0 {
         return 0;
     }
@@ -58,27 +49,6 @@ fn put_by(
     end
 }
 
-// Each value in chunks, up to one that is refused.
-fn put_each(table: &[u8], place: Place, bytes: &[u8], out: &mut [u8], at: usize) -> usize {
-    let all = Values::Chunks(place);
-    let count = all.count();
-    let mut end = at;
-    let mut i = 0;
-    while i < count {
-        match all.get(bytes, i) {
-            ReadValue::Is(one) => {
-                end = put_words(table, by(VALUE, value(one)), 0, bytes, bytes, out, end);
-            }
-            ReadValue::Refused(number) => {
-                return put_words(table, refused(number), 0, bytes, bytes, out, end);
-            }
-        }
-        i += 1;
-    }
-    end
-}
-
-// Puts the words of an answer behind the first `at` bytes of the output, and answers where they end.
 fn put_words(
     table: &[u8],
     answer: Answer,

@@ -1,15 +1,19 @@
 // Addresses, values, kinds and sources by their numbers.
+use bench_answers::put;
 use bench_words::*;
 use facts::probe::DeviceKind;
 use facts::probe::DeviceKind::*;
 use facts::source::Source;
 use facts::source::Source::*;
 use fields::addr::Addr;
-use fields::value::Value;
+use fields::value::*;
 use numbers::fixed_point::FixedPoint;
 use numbers::float::*;
 use octets::Place;
 use responses::Values;
+
+// The row of the list z for a value alone.
+const VALUE: u32 = 6;
 
 pub fn addr_of(len: u32, bit: u32, val: u32) -> Addr {
     Addr::new_with_extra_bit(val, byte(len), bit == 1)
@@ -52,6 +56,23 @@ pub fn values(values: Values) -> Answer {
         Values::Chunks(place) => of_place(6, place),
         Values::One(one) => value(one),
     }
+}
+
+// Puts each value in chunks behind the first `at` bytes of an answer, up to one that is refused, and
+// answers where they end.
+pub fn put_each(place: Place, bytes: &[u8], out: &mut [u8], at: usize) -> usize {
+    let all = Values::Chunks(place);
+    let count = all.count();
+    let mut end = at;
+    let mut i = 0;
+    while i < count {
+        match all.get(bytes, i) {
+            ReadValue::Is(one) => end = put(by(VALUE, value(one)), 0, bytes, bytes, out, end),
+            ReadValue::Refused(k) => return put(refused(k), 0, bytes, bytes, out, end),
+        }
+        i += 1;
+    }
+    end
 }
 
 // A kind's number, and the kind of a number.
