@@ -5,3 +5,4 @@ pub mod Agree
 pub mod Determined
 pub mod InBytes
 pub mod Parts
+pub mod Bytes

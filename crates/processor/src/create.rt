@@ -91,7 +91,8 @@ fn device_of(hw_id: u8, dsp_version: u8, kind: DeviceKind, fir_max_taps: u16) ->
     }
 }
 
-fn erase(eeprom: &mut [u8])
+// Fills with 0xFF, as an EEPROM is without content.
+pub fn erase(eeprom: &mut [u8])
     ensures { λ _. ⌜ now (eeprom .exit) ≡ replicate (length (now (eeprom .entry))) 0xFF ⌝ }
 {
     let mut i = 0;

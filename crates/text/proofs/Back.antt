@@ -50,7 +50,7 @@ decimal-back n h =
     sym (other _ _ _ _ _ (λ z. omega (arith, decimal-length n)) (rw (decimal-step n, e) (below _ _ _ _ _ h refl)))
 
 -- ---- pairs
-hex-back : (d : ℕ) → d < 16 → digitValue (hexDigit d) ≡ d
+pub hex-back : (d : ℕ) → d < 16 → digitValue (hexDigit d) ≡ d
 unfolding digitValue
 hex-back d h = go (lt-or-le d 10)
   where
