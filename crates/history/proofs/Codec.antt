@@ -3,12 +3,10 @@
 use Prim.Native.Nat.{ℕ, _+_, _-_, _≤_, _<_}
 use mathlib.Core.Path.{_≡_, refl, sym, _∙_, subst}
 use mathlib.Core.Bool.{false}
-use mathlib.Core.Logic.{_⊎_, inl, inr}
 use mathlib.Core.List.{List, [], _∷_, append-nil}
 use native.Mathlib.Omega.{arith}
-use lib.Dec.{lit<}
 use lib.ListN.{length, take, drop, length-take, length-drop, take-append-drop}
-use lib.Seq.{getD-take, getD-drop, take-all, length-take-le}
+use lib.Seq.{take-all, length-take-le}
 use Rattle.octets.specs.Refusals.{ends, wrongField}
 use Rattle.octets.specs.Outcome.{Outcome, accepted, refused, andThen}
 use Rattle.octets.specs.Choice.{ifLt, ifEq}
@@ -16,8 +14,9 @@ use Rattle.octets.specs.Number.{at, Octets, bigAt, littleAt}
 use Rattle.octets.specs.Place.{placeAt, partOf}
 use Rattle.octets.specs.Reading.{rest}
 use Rattle.octets.specs.declared.Place.{Place}
-use Rattle.octets.proofs.Choosing.{lt-or-le, below, above, same, other, either-lt, either-eq, refused-accepted, was-above, was-other, was-same}
-use Rattle.octets.proofs.InBytes.{past, little-behind}
+use Rattle.octets.proofs.Bytes.{part-octets}
+use Rattle.octets.proofs.Choosing.{below, above, same, other, either-lt, either-eq, refused-accepted, was-above, was-other, was-same}
+use Rattle.octets.proofs.InBytes.{little-behind}
 use Rattle.octets.proofs.Parts.{is-inside}
 use Rattle.packet.specs.Receipt.{lengthByte, plainOf, exactOf}
 use Rattle.fields.specs.Addr.{addrAt}
@@ -126,14 +125,6 @@ module _ (e s : ℕ) (p : List ℕ) (short : length p ≤ 254) where
         (was-above _ _ _ _ h .1)
 
 -- ---- a whole frame
-pub part-octets : (l : List ℕ) (place : Place) → Octets l → Octets (partOf l place)
-unfolding partOf
-part-octets l place octets i = go (lt-or-le i (place .len))
-  where
-    go : (i < place .len) ⊎ (place .len ≤ i) → at (take (place .len) (drop (place .start) l)) i < 256
-    go (inl h) = rw (getD-take (place .len) (drop (place .start) l) i 0 h, getD-drop) (octets (place .start + i))
-    go (inr h) = rw (past (take (place .len) (drop (place .start) l)) i (omega (arith, length-take (place .len) (drop (place .start) l)))) (lit< tt)
-
 pub record Sends (e s : ℕ) (frame : List ℕ) (w : Store) : Type 0 where
   pub place : Place
   pub receives : plainOf frame ≡ accepted place

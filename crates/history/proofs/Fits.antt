@@ -7,6 +7,7 @@ use lib.Dec.{lit<}
 use lib.ListN.{length, replicate}
 use Rattle.octets.specs.Number.{at, Octets}
 use Rattle.octets.specs.Place.{placeAt, partOf}
+use Rattle.octets.proofs.Bytes.{no-octets, one-more, big-octets, part-octets}
 use Rattle.octets.proofs.Choosing.{either-lt, lt-or-le}
 use Rattle.octets.proofs.Overlay.{put-outside}
 use Rattle.processor.specs.Memory.{Memory, memory, Store, toEeprom, toSettings, putAt, store}
@@ -16,8 +17,6 @@ use Rattle.processor.proofs.Puts.{byte-after}
 use Rattle.saves.specs.Save.{blocks}
 use Rattle.saves.specs.Writes.{Words, each, blockStore, wordStore, writesFor}
 use Rattle.history.specs.History.{blank}
-use Rattle.history.proofs.Codec.{part-octets}
-use Rattle.history.proofs.Octets.{no-octets, one-more, big-octets}
 
 abbrev pub Fits : Store → Type 0
 Fits (toEeprom a b) = Octets b

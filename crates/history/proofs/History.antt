@@ -13,9 +13,9 @@ use Rattle.processor.specs.Puts.{orBefore, Within, AllWithin}
 use Rattle.processor.proofs.Stores.{length-put}
 use Rattle.processor.proofs.Puts.{byte-after, word-after}
 use Rattle.saves.specs.Save.{savedInto}
-use Rattle.history.specs.History.{Location, inEeprom, inSettings, content, puts, Call, bare, new, receive, execute, execute-into, write-u8, write-u16, write-u32, set-serial, set-timestamp, replay, save, answer, step, named, namedIfAccepted, history, later, lastStored, last}
+use Rattle.history.specs.History.{Location, inEeprom, inSettings, content, puts, Call, bare, new, receive, execute, execute-into, write-u8, write-u16, write-u32, set-serial, set-timestamp, store-image, replay, save, answer, step, named, namedIfAccepted, history, later, lastStored, last}
 use Rattle.history.specs.Restores.{SameSizes}
-use Rattle.history.proofs.Steps.{Right, executed-right, executed-into-right, received-right, written-right, stamped-right}
+use Rattle.history.proofs.Steps.{Right, executed-right, executed-into-right, received-right, written-right, stamped-right, image-right}
 use Rattle.history.proofs.Makers.{bare-right, new-right}
 use Rattle.history.proofs.Replays.{replay-right}
 
@@ -31,6 +31,7 @@ right (write-u16 a value typed) m = written-right m a (bigBytes 2 value)
 right (write-u32 a value typed) m = written-right m a (bigBytes 4 value)
 right (set-serial value typed) m = written-right m atSerial (bigBytes 4 (value - 900000))
 right (set-timestamp value typed) m = stamped-right m value
+right (store-image image octets) m = image-right m image
 right (replay l octets) m = replay-right m l octets
 right (save out) m = go (savedInto m out .0)
   where

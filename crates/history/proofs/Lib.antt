@@ -4,6 +4,7 @@ pub mod Octets
 pub mod Codec
 pub mod Replays
 pub mod History
+pub mod Images
 pub mod Turns
 pub mod Fits
 pub mod Values

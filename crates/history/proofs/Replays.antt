@@ -7,16 +7,16 @@ use Rattle.octets.specs.Outcome.{Outcome, accepted, refused}
 use Rattle.octets.specs.Number.{Octets}
 use Rattle.octets.proofs.Choosing.{either-eq}
 use Rattle.octets.proofs.Outcomes.{then-both, same-value}
+use Rattle.octets.proofs.Bytes.{behind-octets, part-octets}
 use Rattle.processor.specs.Memory.{Memory, Store}
 use Rattle.processor.specs.Puts.{AllWithin}
 use Rattle.streams.specs.Stream.{lengthOf, contentOf, behind, tagOf, Stream, streamUpTo, streamOf}
 use Rattle.streams.specs.Means.{frameMeans, allMean}
 use Rattle.streams.specs.Judge.{Save, checkedFor}
 use Rattle.saves.specs.Replay.{storing, replayOf}
-use Rattle.history.proofs.Codec.{part-octets, frame-command}
+use Rattle.history.proofs.Codec.{frame-command}
 use Rattle.streams.proofs.Sound.{checked-means}
 use Rattle.history.specs.History.{AllOctets, framesNames, framesIn, EachNames}
-use Rattle.history.proofs.Octets.{behind-octets}
 use Rattle.history.proofs.Steps.{Right}
 
 -- ---- what is in bytes is bytes

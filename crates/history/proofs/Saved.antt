@@ -9,6 +9,7 @@ use lib.ListN.{length, take, drop}
 use lib.Seq.{drop-at}
 use Rattle.octets.specs.Number.{at, Octets, bigBytes, littleBytes}
 use Rattle.octets.specs.Place.{placeAt, partOf}
+use Rattle.octets.proofs.Bytes.{one-more, both-octets, big-octets, little-octets, part-octets}
 use Rattle.packet.specs.Frame.{frameOf}
 use Rattle.processor.specs.Memory.{Memory}
 use Rattle.saves.specs.Save.{memoryPacket, wordPacket, blocks, shapeField, fieldsFor, saveOf}
@@ -17,10 +18,9 @@ use Rattle.saves.specs.Writes.{Words, each, framesFor, writesFor}
 use Rattle.saves.proofs.Saved.{memory-packet, length-memory-packet, word-packet, length-word-packet, length-shape}
 use Rattle.saves.proofs.Fields.{save-stream}
 use Rattle.saves.proofs.Writes.{saved-writes}
-use Rattle.history.proofs.Codec.{part-octets}
 use Rattle.history.specs.History.{Call, history, AllOctets, framesIn, EachNames}
 use Rattle.history.specs.Restores.{Sized}
-use Rattle.history.proofs.Octets.{one-more, both-octets, big-octets, little-octets, frame-octets}
+use Rattle.history.proofs.Octets.{frame-octets}
 use Rattle.history.proofs.Replays.{frames-names}
 use Rattle.history.proofs.History.{lengths-kept}
 use Rattle.history.proofs.Kept.{octets-kept, words-kept}

@@ -1,13 +1,14 @@
 -- One call: it leaves the memories with exactly the writes stored that an accepted call names, all of which lie within.
 use Prim.Native.Nat.{ℕ, _+_, _%_, _^_, _≤_}
-use mathlib.Core.Path.{_≡_, refl, ap, _∙_}
+use mathlib.Core.Path.{_≡_, refl, sym, ap, _∙_}
 use mathlib.Core.List.{List, [], _∷_}
+use native.Mathlib.Omega.{arith}
 use lib.ListN.{length}
 use Rattle.octets.specs.Outcome.{Outcome, accepted, refused, onAccepted}
 use Rattle.octets.specs.Number.{bigBytes}
 use Rattle.octets.specs.Over.{overAt}
-use Rattle.octets.proofs.Choosing.{either-lt}
-use Rattle.octets.proofs.Overlay.{length-over-at, put-inside}
+use Rattle.octets.proofs.Choosing.{either-lt, either-eq}
+use Rattle.octets.proofs.Overlay.{over-whole, length-over-at, put-inside}
 use Rattle.octets.proofs.InBytes.{length-big}
 use Rattle.facts.specs.Eeprom.{atTimestamp, atTimestamp2x4}
 use Rattle.commands.specs.declared.Commands.{Commands}
@@ -15,6 +16,7 @@ use Rattle.processor.specs.Memory.{Memory, memory, Store, toEeprom, putAt, stor
 use Rattle.device.specs.Names.{names}
 use Rattle.processor.specs.Puts.{AllWithin}
 use Rattle.processor.specs.Calls.{writeBytes, setTimestamp}
+use Rattle.images.specs.Store.{storedImage}
 use Rattle.device.specs.Execute.{Left, receivedInto, executedInto, executedRecord}
 use Rattle.processor.specs.declared.Device.{Device}
 use Rattle.device.proofs.Accepted.{Received, received-does, executed-into-does, executed-does}
@@ -77,3 +79,17 @@ module _ (m : Memory) where
           let kept = length-over-at (m .eeprom) atTimestamp one first in
           let second : atTimestamp2x4 + length two ≤ length (m .eeprom) = rw length-big k in
           (ap (λ (l : List ℕ). memory l (m .settings)) (put-inside (overAt atTimestamp one (m .eeprom)) atTimestamp2x4 two (rw kept second) ∙ ap (putAt atTimestamp2x4 two) (put-inside (m .eeprom) atTimestamp one first)), (first, (second, tt)))
+
+  -- an image of the EEPROM's size covers all of it
+  pub image-right : (image : List ℕ) → EepromRight (toEeprom 0 image ∷ []) (storedImage image (m .eeprom))
+  unfolding overAt
+  image-right image =
+      either-lt P _ _ _ _ (λ h. (refl, tt)) (λ h. either-eq P _ _ _ _ whole (λ g. (refl, tt)))
+    where
+      P : Outcome Unit × List ℕ → Type 0
+      P = EepromRight (toEeprom 0 image ∷ [])
+
+      whole : length image ≡ length (m .eeprom) → P (accepted tt, image)
+      whole g =
+          let inside : 0 + length image ≤ length (m .eeprom) = omega arith in
+          (ap (λ (l : List ℕ). memory l (m .settings)) (sym (over-whole image (m .eeprom) g) ∙ put-inside (m .eeprom) 0 image inside), (inside, tt))

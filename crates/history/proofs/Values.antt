@@ -15,6 +15,7 @@ use Rattle.octets.specs.declared.Place.{Place}
 use Rattle.octets.proofs.Choosing.{either-eq, was-above}
 use Rattle.octets.proofs.Outcomes.{same-value}
 use Rattle.octets.proofs.InBytes.{little-lt}
+use Rattle.octets.proofs.Bytes.{big-octets, little-octets, part-octets}
 use Rattle.packet.specs.Receipt.{plainOf}
 use Rattle.numbers.specs.Gain.{gainByte}
 use Rattle.fields.specs.Addr.{bit}
@@ -26,9 +27,7 @@ use Rattle.commands.specs.declared.Commands.{Commands}
 use Rattle.commands.specs.declared.Commands.the-variants.{ReadHardwareId, ReadFloats, WriteMemory, ReadMemory, SetConfig, SetSource, SetMute, SetVolume, WriteBiquad, WriteBiquadBypass, Read, Write, FirLoadStart, FirLoadData, FirLoadEnd, DiracBypass, BulkLoad, BulkLoadFilterData, Unk07, SwitchMux, Unknown}
 use Rattle.device.specs.Names.{names}
 use Rattle.history.specs.Types.{OfTypes}
-use Rattle.history.specs.History.{Call, bare, new, receive, execute, execute-into, write-u8, write-u16, write-u32, set-serial, set-timestamp, replay, save, ifRead, AllOctets, frameNames, framesNames, framesIn, named}
-use Rattle.history.proofs.Codec.{part-octets}
-use Rattle.history.proofs.Octets.{big-octets, little-octets}
+use Rattle.history.specs.History.{Call, bare, new, receive, execute, execute-into, write-u8, write-u16, write-u32, set-serial, set-timestamp, store-image, replay, save, ifRead, AllOctets, frameNames, framesNames, framesIn, named}
 use Rattle.history.proofs.Replays.{frames-octets}
 use Rattle.history.proofs.Fits.{AllFit, both-fit, byte, blank-fit, new-fit}
 
@@ -124,5 +123,6 @@ named-fit e s (write-u16 a value typed) = (big-octets 2 _, tt)
 named-fit e s (write-u32 a value typed) = (big-octets 4 _, tt)
 named-fit e s (set-serial value typed) = (big-octets 4 _, tt)
 named-fit e s (set-timestamp value typed) = (big-octets 4 _, (big-octets 2 _, tt))
+named-fit e s (store-image image octets) = (octets, tt)
 named-fit e s (replay l octets) = frames-fit (framesIn l) (frames-octets l octets)
 named-fit e s (save out) = tt

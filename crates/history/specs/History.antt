@@ -18,6 +18,7 @@ use Rattle.device.specs.Names.{names}
 use Rattle.processor.specs.Puts.{putsByte, putsWord}
 use Rattle.processor.specs.Calls.{writeU8, writeU16, writeU32, setSerial, setTimestamp}
 use Rattle.processor.specs.Create.{bareOf, newMemory, newOf}
+use Rattle.images.specs.Store.{storedImage}
 use Rattle.device.specs.Execute.{receivedInto, executedInto, executedRecord}
 use Rattle.processor.specs.declared.Device.{Device}
 use Rattle.saves.specs.Save.{savedInto}
@@ -55,6 +56,7 @@ pub data Call : Type 0 where
   write-u32 : ℕ → (value : ℕ) → value < 2 ^ 32 → Call
   set-serial : (value : ℕ) → value < 2 ^ 32 → Call
   set-timestamp : (value : ℕ) → value < 2 ^ 32 → Call
+  store-image : (image : List ℕ) → Octets image → Call
   replay : (l : List ℕ) → Octets l → Call
   save : List ℕ → Call
 
@@ -80,6 +82,7 @@ leaves (write-u16 a value typed) m = onEeprom m (writeU16 a value)
 leaves (write-u32 a value typed) m = onEeprom m (writeU32 a value)
 leaves (set-serial value typed) m = onEeprom m (setSerial value)
 leaves (set-timestamp value typed) m = onEeprom m (setTimestamp value)
+leaves (store-image image octets) m = onEeprom m (storedImage image)
 leaves (replay l octets) m = replayOf m l
 leaves (save out) m = (onAccepted (λ n. tt) (savedInto m out .0), m)
 
@@ -123,6 +126,8 @@ named e s (write-u16 a value typed) = toEeprom a (bigBytes 2 value) ∷ []
 named e s (write-u32 a value typed) = toEeprom a (bigBytes 4 value) ∷ []
 named e s (set-serial value typed) = toEeprom atSerial (bigBytes 4 (value - 900000)) ∷ []
 named e s (set-timestamp value typed) = toEeprom atTimestamp (bigBytes 4 value) ∷ toEeprom atTimestamp2x4 (bigBytes 2 (value % 2 ^ 16)) ∷ []
+-- "Storing the image in a processor is one more call, and it names all E bytes."
+named e s (store-image image octets) = toEeprom 0 image ∷ []
 -- "in demand 3 each of its frames counts as one accepted call in turn"
 named e s (replay l octets) = framesNames (framesIn l)
 named e s (save out) = []

@@ -6,7 +6,7 @@ use Rattle.processor.specs.Memory.{Memory}
 use Rattle.device.specs.Execute.{receivedInto}
 use Rattle.tally.specs.Tally.{tallyAfter}
 use Rattle.tally.specs.declared.Tally.{Tally}
-use Rattle.history.specs.History.{Call, bare, new, receive, execute, execute-into, write-u8, write-u16, write-u32, set-serial, set-timestamp, replay, save, step}
+use Rattle.history.specs.History.{Call, bare, new, receive, execute, execute-into, write-u8, write-u16, write-u32, set-serial, set-timestamp, store-image, replay, save, step}
 
 -- what a call has counted: the answer, where it is one of the received-frame entry
 abbrev pub counted : Call → Memory → List (Outcome ℕ)
@@ -20,6 +20,7 @@ counted (write-u16 a value typed) m = []
 counted (write-u32 a value typed) m = []
 counted (set-serial value typed) m = []
 counted (set-timestamp value typed) m = []
+counted (store-image image octets) m = []
 counted (replay l octets) m = []
 counted (save out) m = []
 
