@@ -1,7 +1,7 @@
 // The save that is kept goes into a file and comes from one.
 use crate::held::*;
-use bench_files::*;
 use bench_words::*;
+use programs::files::*;
 
 // One more than can be kept, so that a file that is longer is told.
 const MOST: usize = 1048577;

@@ -1,8 +1,11 @@
 // What the bench holds between requests, as numbers: the device as its making answers it, how much of
-// each memory is lent, how many bytes of a save are kept, the tally, and how many requests there were.
+// each memory is lent, how many bytes of a save or a text are kept, the tally, and how many requests
+// there were.
 use bench_device::device_of;
 use bench_words::*;
+use images::export::export;
 use octets::Written;
+use programs::lent::front;
 use saves::save::save;
 use tally::Tally;
 use tally::receive::receive_lending;
@@ -98,9 +101,17 @@ pub fn send(
     same(written(answer), tallied(held, tally))
 }
 
-// A save that is refused leaves the one that is kept.
 pub fn keep(room: u32, held: Answer, eeprom: &[u8], settings: &[u32], kept: &mut [u8]) -> Asked {
-    match save(eeprom, settings, front(kept, room as usize)) {
+    keeping_what(save(eeprom, settings, front(kept, room as usize)), held)
+}
+
+pub fn keep_hex(room: u32, held: Answer, eeprom: &[u8], kept: &mut [u8]) -> Asked {
+    keeping_what(export(eeprom, front(kept, room as usize)), held)
+}
+
+// What is refused leaves what is kept.
+fn keeping_what(answer: Written, held: Answer) -> Asked {
+    match answer {
         Written::Bytes(n) => keeping(n, held),
         Written::Refused(k) => same(refused(k), held),
     }

@@ -6,6 +6,7 @@ use bench_records::values::put_each;
 use bench_words::read::*;
 use bench_words::*;
 use libc::STDOUT_FILENO;
+use programs::lent::*;
 
 // The most output that a request is lent.
 const ROOM: usize = 4096;
@@ -92,13 +93,6 @@ fn of_device(
     asked.held
 }
 
-fn front_words(words: &mut [u32], n: usize) -> &mut [u32] {
-    if words.len() < n {
-        return words;
-    }
-    &mut words[0..n]
-}
-
 fn ask(
     verb: usize,
     n: Numbers,
@@ -112,6 +106,7 @@ fn ask(
     match verb {
         1004 => send(head(bytes, n.a), held, eeprom, settings, out),
         1018 => keep(n.a, held, &eeprom[..], &settings[..], kept),
+        1031 => keep_hex(n.a, held, &eeprom[..], kept),
         1027..=1028 => files::ask(verb, head(bytes, n.a), held, kept),
         1001 | 1005 | 1006 | 1025 | 1026 => held::ask(verb, n, held),
         _ => {

@@ -7,6 +7,7 @@ mod on_responses;
 mod on_views;
 
 use bench_words::*;
+use images::import::import;
 
 // Answers a request, whose first numbers are n, and all of them `all`. Its bytes lie in `bytes`; what it
 // writes goes to `out`.
@@ -18,6 +19,7 @@ pub fn ask(verb: usize, n: Numbers, all: [u32; 32], bytes: &[u8], out: &mut [u8]
         19..=26 => on_facts::ask(verb, n),
         27..=32 => on_views::ask(verb, n, bytes, out),
         44 => on_packet::ask(verb, n, bytes, out),
+        45 => with_output(done(import(head(bytes, n.a), out))),
         _ => on_responses::ask(verb, n, all, bytes, out),
     }
 }

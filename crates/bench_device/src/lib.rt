@@ -1,5 +1,6 @@
-// The bench's requests over one processor with its memories, and over a save, by the numbers of their
-// verbs. What is held of the processor is the numbers that its making answers.
+// The bench's requests over one processor with its memories, over a save and over an image, by the
+// numbers of their verbs. What is held of the processor is the numbers that its making answers.
+mod hex;
 mod look;
 mod make;
 
@@ -17,7 +18,7 @@ use streams::judge::judge;
 use streams::shape::Judged;
 
 // Answers a request on what is lent of the two memories. Its bytes lie in `bytes`, what it writes goes to
-// `out`, and `saved` is the save that is kept.
+// `out`, and `saved` is the save or the text that is kept.
 pub fn ask(
     verb: usize,
     n: Numbers,
@@ -36,6 +37,7 @@ pub fn ask(
         1008 => written(execute_into(device_of(held), command_of(n), given, eeprom, settings, out)),
         1009..=1011 => look::ask(verb, n, &eeprom[..], &settings[..], out),
         1012..=1016 => done(write(verb, n, eeprom)),
+        1029..=1032 => hex::ask(verb, given, saved, eeprom, out),
         _ => with_save(verb, n, given, saved, out, eeprom, settings),
     }
 }

@@ -134,14 +134,6 @@ pub fn head(bytes: &[u8], n: u32) -> &[u8] {
     octets::part(bytes, place(0, n))
 }
 
-// The same of bytes that are lent to be written.
-pub fn front(bytes: &mut [u8], n: usize) -> &mut [u8] {
-    if bytes.len() < n {
-        return bytes;
-    }
-    &mut bytes[0..n]
-}
-
 // What stands from a place on, or all.
 pub fn from_place(bytes: &mut [u8], place: usize) -> &mut [u8] {
     if bytes.len() < place {

@@ -25,7 +25,7 @@ ghost use lib.ListN.{length};
 use octets::Place;
 use octets::number::byte;
 
-pub const TABLE: [u8; 4791] = *b"a checksum x > c
+pub const TABLE: [u8; 5069] = *b"a checksum x > c
 a frame x r > n x
 a plain|strict x > p
 a from_f32|to_f32|float w > w
@@ -62,6 +62,7 @@ a status b b x h n n > preset o source S volume f mute o dirac o
 a why b > i
 a help v > v
 a exact x > p
+a import x r > done x
 d lend m m > done
 d bare b b K h > n n n n K n
 d new b b K h p > n n n n K n
@@ -88,6 +89,10 @@ d list_kept r > n x
 d device > hw_id n dsp_version n firmware n n kind K taps n eeprom n settings n kept n
 d end > end n requests
 d write_save|read_save f > n
+d export r > n x
+d store_image x > done
+d keep_hex k > n
+d restore_hex > done
 C ReadHardwareId|FirLoadEnd
 C ReadFloats|ReadMemory h b
 C WriteMemory h n n
@@ -180,6 +185,9 @@ i 12 the response is not of the kind asked for
 i 13 the save has a wrong field, order, kind or count
 i 14 a memory has a wrong size, or the sizes differ
 i 15 the first of the joined views ends behind 65535
+i 16 the text is malformed, has another record type or no end record, or goes on behind it
+i 17 a record of the text has a wrong checksum
+i 18 two rows of the text name one byte
 ";
 
 // A name's number in its list, its place, and where the words of its row begin.

@@ -1,8 +1,8 @@
 // Reads one save from standard input and prints its listing, or only the number of its refusal. It
 // only reads and writes: the text is the library's.
 use libc::STDIN_FILENO;
-use libc::STDOUT_FILENO;
 use octets::Written;
+use programs::prints::*;
 
 // The input holds one byte more than is listed, so that a save that is too long is seen; the output
 // has room for every listing (crate listed, proofs/Fits.antt).
@@ -13,25 +13,13 @@ fn main() {
 }
 
 fn run(input: &mut [u8; 32769], output: &mut [u8; 65536]) {
-    print(input, output);
+    read_and_print(input, output);
 }
 
-fn print(input: &mut [u8], output: &mut [u8]) {
+fn read_and_print(input: &mut [u8], output: &mut [u8]) {
     let n = io::read_full(STDIN_FILENO, input);
     match listed::list(&input[0..n], output) {
-        Written::Bytes(len) => print_text(output, len),
+        Written::Bytes(len) => print_front(output, len),
         Written::Refused(number) => print_refusal(number),
     }
-}
-
-fn print_text(text: &[u8], len: usize) {
-    if len <= text.len() {
-        io::write_all(STDOUT_FILENO, &text[0..len]);
-    }
-}
-
-fn print_refusal(number: u8) {
-    io::write_all(STDOUT_FILENO, b"refused ");
-    io::print_decimal(STDOUT_FILENO, number as u64);
-    io::write_all(STDOUT_FILENO, b"\n");
 }

@@ -1,5 +1,4 @@
-// A file as a whole, for the programs: all of it is read, or it is told why not; and it is written whole
-// or not at all.
+// A file as a whole: all of it is read, or it is told why not; and it is written whole or not at all.
 use octets::Place;
 
 // The longest name of a file, with what stands behind it while the file is written.
