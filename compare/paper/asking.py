@@ -1,4 +1,4 @@
-"""Asks the program bench, and holds its answers to those that the papers give (reader.py)."""
+"""Asks the program bench, and holds its answers to those that the papers give (reader.py, hexes.py); runs the others."""
 import os
 import subprocess
 import sys
@@ -10,13 +10,21 @@ os.chdir(os.path.join(os.path.dirname(os.path.abspath(__file__)), "..", ".."))
 SHOWN = 1024
 
 
+class Enough(Exception):
+    """As many requests as are wanted."""
+
+
 class Bench:
     """The requests so far and the answers that the papers give, with the memories as they are then."""
+
+    most = None
 
     def __init__(self):
         self.requests, self.answers = [], []
 
     def ask(self, request, answer):
+        if len(self.requests) == self.most:
+            raise Enough(self)
         self.requests.append(request)
         self.answers.append(answer)
 
@@ -84,12 +92,22 @@ def port(name, requests):
     return run.stdout.split("\n")[:-1]
 
 
+def ran(program, words, given):
+    """What a program of the port writes, of which nothing is taken where it ends badly."""
+    command = os.environ.get(program.upper(), f"compare/tools/start target/bin/{program}").split()
+    run = subprocess.run([*command, *words], input=given, stdout=subprocess.PIPE)
+    return run.stdout if run.returncode == 0 else None
+
+
 def hold(name, asked):
     """Compares what a seed asks; the words of the command are the seed and how many of the first requests are made."""
     seed = int(sys.argv[1]) if len(sys.argv) > 1 else 1
-    most = int(sys.argv[2]) if len(sys.argv) > 2 else None
-    bench = asked(seed)
-    trials = list(zip(bench.requests, bench.answers))[:most]
+    Bench.most = int(sys.argv[2]) if len(sys.argv) > 2 else None
+    try:
+        bench = asked(seed)
+    except Enough as enough:
+        bench, = enough.args
+    trials = list(zip(bench.requests, bench.answers))
     said = port(name, [request for request, _ in trials])
     wrong = [(*trial, answer) for trial, answer in zip(trials, said) if trial[1] != answer]
     for request, answer, other in wrong[:10]:
