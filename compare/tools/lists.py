@@ -26,6 +26,9 @@ def files_under(folder, ending):
 
 # ---- crates
 
+# what the programs share
+SHARED = "programs"
+
 def crates():
     """Each crate of crates.txt with those that it needs."""
     rows = re.findall(r"(?m)^([a-z_0-9]+):(.*)$", text_of("crates.txt"))
@@ -37,8 +40,10 @@ def is_program(crate):
 
 
 def is_part(crate):
-    """Whether a crate is a part of a program: named after one, as bench_words, and used by no other crate."""
+    """Whether a crate is a part of a program, named after one, as bench_words, and used by no other crate; or what programs share."""
     users = [other for other, needs in crates().items() if crate in needs]
+    if crate == SHARED:
+        return all(is_program(user) or is_part(user) for user in users)
     owners = [other for other in crates() if is_program(other) and crate.startswith(other + "_")]
     return bool(owners and users) and all(user.startswith(owners[0]) for user in users)
 
