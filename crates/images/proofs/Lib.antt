@@ -15,4 +15,5 @@ pub mod Lines
 pub mod OneLine
 pub mod Judging
 pub mod Placing
+pub mod Kept
 pub mod Determined
