@@ -1,22 +1,18 @@
 -- Bits: one that is 0 is set by adding its power of two, and the others stay.
-use Prim.Native.Nat.{ℕ, zero, suc, _+_, _-_, _*_, _/_, _%_, _^_, _≤_, _<_}
+use Prim.Native.Nat.{ℕ, _+_, _-_, _*_, _/_, _%_, _^_, _≤_, _<_}
 use mathlib.Core.Path.{_≡_, ap, _∙_}
 use mathlib.Core.Logic.{_⊎_, inl, inr}
 use mathlib.Core.List.{List}
-use native.Mathlib.Nat.{mul-pos, pow-suc, mul-add-div-right}
+use native.Mathlib.Nat.{mul-add-div-right}
 use native.Mathlib.Decide.{ℕ-discrete}
 use native.Mathlib.Omega.{arith}
 use lib.Dec.{lit<}
 use lib.ListN.{length, set}
-use lib.Pow.{pow-add, shl-exact, shr-shr}
+use lib.Pow.{pow-pos, pow-add, shl-exact, shr-shr}
 use lib.Seq.{getD-set-same, getD-set-other}
 use Rattle.octets.specs.Number.{at}
 use Rattle.octets.proofs.Choosing.{lt-or-le, either-lt}
 use Rattle.images.specs.Inside.{bitAt, oneIn}
-
-pub some : (j : ℕ) → 0 < 2 ^ j
-some zero = lit< tt
-some (suc j) = rw pow-suc (mul-pos (some j) (lit< tt))
 
 -- `1 << j` in a byte
 pub one-bit : (j : ℕ) → j < 8 → 1 * 2 ^ j % 256 ≡ 2 ^ j
@@ -25,13 +21,13 @@ one-bit j h = shl-exact {a = 1} 1 j 8 (lit< tt) (omega arith) ∙ omega arith
 module _ (w j : ℕ) where
   -- counted in steps of the power, the number is the next one
   next : (w + 2 ^ j) / 2 ^ j ≡ w / 2 ^ j + 1
-  next = let e : w + 2 ^ j ≡ 1 * 2 ^ j + w = omega arith in rw e (mul-add-div-right (some j) 1 w ∙ omega arith)
+  next = let e : w + 2 ^ j ≡ 1 * 2 ^ j + w = omega arith in rw e (mul-add-div-right (pow-pos j) 1 w ∙ omega arith)
 
   lower : (d k : ℕ) → j ≡ k + (1 + d) → (w + 2 ^ j) / 2 ^ k % 2 ≡ w / 2 ^ k % 2
   lower d k h =
       let e : w + 2 ^ j ≡ 2 ^ (1 + d) * 2 ^ k + w = rw (h, pow-add 2 k (1 + d)) (omega arith) in
       let even : 2 ^ (1 + d) ≡ 2 * 2 ^ d = pow-add 2 1 d in
-      rw (e, mul-add-div-right (some k) (2 ^ (1 + d)) w, even) (omega arith)
+      rw (e, mul-add-div-right (pow-pos k) (2 ^ (1 + d)) w, even) (omega arith)
 
   module _ (clear : w / 2 ^ j % 2 ≡ 0) where
     pub set-here : (w + 2 ^ j) / 2 ^ j % 2 ≡ 1

@@ -1,6 +1,6 @@
 -- What an image holds: each byte is what the one row naming it has there, else 0xFF. So rows that name the same bytes make the same
 -- image, in whatever order and however cut.
-use Prim.Native.Nat.{ℕ, _+_, _-_, _≤_, _<_}
+use Prim.Native.Nat.{ℕ, _-_, _<_}
 use mathlib.Core.Path.{_≡_, refl, sym, ap, _∙_}
 use mathlib.Core.Logic.{_⊎_, inl, inr}
 use mathlib.Core.Option.{Option, none, some, Option·none-ne-some}
@@ -8,44 +8,23 @@ use mathlib.Core.List.{List, [], _∷_, _++_, append-assoc}
 use native.Mathlib.Omega.{arith}
 use lib.ListN.{length, replicate, length-replicate, getD-replicate}
 use lib.Seq.{ext-getD}
-use Rattle.octets.specs.Refusals.{wrongSizes}
-use Rattle.octets.specs.Outcome.{accepted, refused}
-use Rattle.octets.specs.Choice.{ifLt}
 use Rattle.octets.specs.Number.{at}
-use Rattle.octets.proofs.Choosing.{below, above, lt-or-le, if-of}
+use Rattle.octets.proofs.Choosing.{below, above, either-lt}
 use Rattle.processor.specs.Memory.{memory, toEeprom, putAt}
 use Rattle.processor.specs.Puts.{orBefore}
 use Rattle.processor.proofs.Stores.{length-put}
 use Rattle.processor.proofs.Puts.{byte-after}
-use Rattle.images.specs.Format.{HexRow, Names, Apart, ApartFrom, RowsFit}
-use Rattle.images.specs.Import.{placed, imageOf, rowByte, namedAt, rowsIn, filled, importedInto, judgedFor}
-use Rattle.images.proofs.Texts.{sound}
+use Rattle.intel_hex.specs.Format.{HexRow, Names, Apart, ApartFrom, RowsFit}
+use Rattle.intel_hex.proofs.Fitting.{names-or-not}
+use Rattle.images.specs.Import.{placed, imageOf, rowByte, namedAt}
 
 -- ---- one row
 module _ (r : HexRow) (i : ℕ) where
   pub row-names : Names r i → rowByte r i ≡ some (at (r .bytes) (i - r .start))
   row-names h = sym (above _ _ _ _ _ (h .0) (below _ _ _ _ _ (h .1) refl))
 
-  row-below : i < r .start → rowByte r i ≡ none
-  row-below h = sym (below _ _ _ _ _ h refl)
-
-  row-behind : r .start + length (r .bytes) ≤ i → rowByte r i ≡ none
-  row-behind h = sym (above _ _ _ _ _ (omega arith) (above _ _ _ _ _ h refl))
-
-  pub names-or-not : Names r i ⊎ (rowByte r i ≡ none)
-  names-or-not = go (lt-or-le i (r .start)) (lt-or-le i (r .start + length (r .bytes)))
-    where
-      go : (i < r .start) ⊎ (r .start ≤ i) → (i < r .start + length (r .bytes)) ⊎ (r .start + length (r .bytes) ≤ i) → Names r i ⊎ (rowByte r i ≡ none)
-      go (inl h) q = inr (row-below h)
-      go (inr h) (inl g) = inl (h, g)
-      go (inr h) (inr g) = inr (row-behind g)
-
   pub row-not : (Names r i → ⊥) → rowByte r i ≡ none
-  row-not never = go names-or-not
-    where
-      go : Names r i ⊎ (rowByte r i ≡ none) → rowByte r i ≡ none
-      go (inl h) = absurd (never h)
-      go (inr e) = e
+  row-not never = either-lt (λ o. o ≡ none) _ _ _ _ (λ h. refl) (λ h. either-lt (λ o. o ≡ none) _ _ _ _ (λ g. absurd (never (h, g))) (λ g. refl))
 
 -- ---- rows that fit are apart
 module _ (e : ℕ) (r : HexRow) where
@@ -72,14 +51,14 @@ length-image e rows = length-placed rows (replicate e 0xFF) ∙ length-replicate
 -- one row more in front of others
 module _ (e : ℕ) (before : List HexRow) (r : HexRow) (rows : List HexRow) (image : List ℕ) (long : length image ≡ e) (h : RowsFit e before (r ∷ rows)) (i : ℕ) where
   here : at (putAt (r .start) (r .bytes) image) i ≡ orBefore (rowByte r i) (at image i)
-  here = byte-after (toEeprom (r .start) (r .bytes)) (memory image []) (omega (arith, h .0 .3)) i
+  here = byte-after (toEeprom (r .start) (r .bytes)) (memory image []) (omega (arith, h .0 .1)) i
 
   row-placed : orBefore (namedAt rows i) (at (putAt (r .start) (r .bytes) image) i) ≡ orBefore (namedAt (r ∷ rows) i) (at image i)
   row-placed = ap (orBefore (namedAt rows i)) here ∙ go (names-or-not r i)
     where
-      go : Names r i ⊎ (rowByte r i ≡ none) → orBefore (namedAt rows i) (orBefore (rowByte r i) (at image i)) ≡ orBefore (namedAt (r ∷ rows) i) (at image i)
+      go : Names r i ⊎ (Names r i → ⊥) → orBefore (namedAt rows i) (orBefore (rowByte r i) (at image i)) ≡ orBefore (namedAt (r ∷ rows) i) (at image i)
       go (inl n) = rw (later-not e r before [] rows i (h .2) n, row-names r i n)
-      go (inr o) = rw o
+      go (inr never) = rw (row-not r i never)
 
 placed-byte : (e : ℕ) (before rows : List HexRow) (image : List ℕ) → length image ≡ e → RowsFit e before rows → (i : ℕ) → at (placed rows image) i ≡ orBefore (namedAt rows i) (at image i)
 placed-byte e before [] image long h i = refl
@@ -106,15 +85,3 @@ same-image e a b f g same =
     let long : length (imageOf e a) ≡ e = length-image e a in
     ext-getD 0 (imageOf e a) (imageOf e b) (long ∙ sym (length-image e b))
     (λ i h. let k : i < e = omega arith in byte-of-image e a f i k ∙ ap (λ (o : Option ℕ). orBefore o 0xFF) (same i k) ∙ sym (byte-of-image e b g i k))
-
--- an import, by the size and then by the rows
-pub imported-is : (text image : List ℕ) → importedInto text image ≡ ifLt 65536 (length image) (refused wrongSizes, image) (filled image (rowsIn (length image) text))
-unfolding importedInto judgedFor
-imported-is text image = if-of (filled image) 65536 (length image) (refused wrongSizes) (rowsIn (length image) text)
-
--- two texts that name the same bytes give the same image
-pub same-import : (a b image : List ℕ) (p q : List HexRow) → rowsIn (length image) a ≡ accepted p → rowsIn (length image) b ≡ accepted q
-    → ((i : ℕ) → i < length image → namedAt p i ≡ namedAt q i) → importedInto a image ≡ importedInto b image
-same-import a b image p q f g same =
-    let e : ℕ = length image in
-    rw (imported-is a image, imported-is b image, f, g, same-image e p q (sound e a p f .fitting) (sound e b q g .fitting) same)

@@ -13,16 +13,16 @@ use Rattle.octets.specs.Choice.{ifLt}
 use Rattle.octets.specs.Number.{at}
 use Rattle.octets.proofs.Choosing.{either-lt}
 use Rattle.text.specs.Lines.{untilOf}
-use Rattle.images.specs.Format.{HexRow}
-use Rattle.images.specs.Import.{linesIn, lineIn, rowsAtLast, rowsBehind, rowsFrom}
+use Rattle.intel_hex.specs.Format.{HexRow}
+use Rattle.intel_hex.specs.Reading.{linesIn, lineIn, rowsAtLast, rowsBehind, rowsFrom}
 use Rattle.images.specs.Inside.{firstLine, behindLine, extentTold, extentOf, lastStep, FitOf, StepOf}
 use Rattle.images.specs.declared.row.Line.{Line}
 use Rattle.images.specs.declared.row.Line.the-variants.{Row, End, Refused}
 use Rattle.images.specs.declared.judge.Step.{Step}
 use Rattle.images.specs.declared.judge.Step.the-variants.{Row as OneRow, End as AtEnd, Refused as Fault}
-use Rattle.images.proofs.Cut.{lines-at, lines-last, some-line}
-use Rattle.images.proofs.Fitting.{fitting-is, fitting-not}
-use Rattle.images.proofs.Texts.{goOn, step-lines, not-at-end}
+use Rattle.intel_hex.proofs.Cut.{lines-at, lines-last, some-line}
+use Rattle.intel_hex.proofs.Fitting.{fitting-is, fitting-not}
+use Rattle.intel_hex.proofs.Texts.{goOn, step-lines, not-at-end}
 use Rattle.images.proofs.Lines.{first-ended}
 use Rattle.images.proofs.Named.{clear-apart, set-twice, one-more-marked}
 

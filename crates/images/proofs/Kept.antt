@@ -6,7 +6,7 @@ use lib.ListN.{length}
 use Rattle.octets.specs.Outcome.{Outcome, accepted, refused}
 use Rattle.octets.proofs.Choosing.{either-lt, either-eq, accepted-refused}
 use Rattle.processor.proofs.Refusals.{KeptAlone}
-use Rattle.images.specs.Format.{HexRow}
+use Rattle.intel_hex.specs.Format.{HexRow}
 use Rattle.images.specs.Import.{judgedFor, filled, importedInto}
 use Rattle.images.specs.Store.{storedImage}
 

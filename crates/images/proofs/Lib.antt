@@ -1,12 +1,6 @@
-pub mod Letters
-pub mod Records
-pub mod Spelled
-pub mod Cut
-pub mod Fitting
-pub mod Texts
-pub mod Refused
 pub mod Exported
 pub mod Image
+pub mod Imported
 pub mod Again
 pub mod Bits
 pub mod Marking

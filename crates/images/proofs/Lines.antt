@@ -6,9 +6,9 @@ use native.Mathlib.Omega.{arith}
 use lib.ListN.{length, take, drop, length-drop}
 use lib.Seq.{take-all}
 use Rattle.text.specs.Lines.{untilOf}
-use Rattle.images.specs.Import.{linesIn, withoutCr}
+use Rattle.intel_hex.specs.Reading.{linesIn, withoutCr}
 use Rattle.images.specs.Inside.{firstLine, behindLine}
-use Rattle.images.proofs.Cut.{lines-at, lines-last, some-line}
+use Rattle.intel_hex.proofs.Cut.{lines-at, lines-last, some-line}
 
 -- before other lines
 first-of : (line : List ℕ) (lines : List (List ℕ)) → (lines ≡ [] → ⊥) → firstLine (line ∷ lines) ≡ withoutCr line

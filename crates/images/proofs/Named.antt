@@ -1,5 +1,5 @@
 -- The bytes that rows name, as bits: a row is apart from others exactly if none of its bits is set.
-use Prim.Native.Nat.{ℕ, _+_, _/_, _%_, _^_, _≤_, _<_}
+use Prim.Native.Nat.{ℕ, _/_, _%_, _^_}
 use mathlib.Core.Path.{_≡_, refl, sym, _∙_}
 use mathlib.Core.Bool.{false}
 use mathlib.Core.Logic.{_⊎_, inl, inr, ⊎-elim}
@@ -8,50 +8,30 @@ use native.Mathlib.Nat.{zero-div}
 use native.Mathlib.Omega.{arith}
 use lib.ListN.{length, replicate, getD-replicate, length-replicate}
 use Rattle.octets.specs.Number.{at}
-use Rattle.octets.proofs.Choosing.{lt-or-le}
-use Rattle.images.specs.Format.{HexRow, Names, ApartFrom}
+use Rattle.intel_hex.specs.Format.{HexRow, rowEnd, Names, ApartFrom}
+use Rattle.intel_hex.specs.Faults.{Twice}
 use Rattle.images.specs.Inside.{oneIn, namedBit, Marked, MarksRow}
-use Rattle.images.proofs.Fitting.{Twice, later}
-use Rattle.images.proofs.Marking.{in-within, before-within, behind-within}
-
-abbrev end : HexRow → ℕ
-end r = r .start + length (r .bytes)
-
--- a row names a byte, or not
-names-or-not : (r : HexRow) (i : ℕ) → Names r i ⊎ (Names r i → ⊥)
-names-or-not r i = go (lt-or-le i (r .start)) (lt-or-le i (end r))
-  where
-    go : (i < r .start) ⊎ (r .start ≤ i) → (i < end r) ⊎ (end r ≤ i) → Names r i ⊎ (Names r i → ⊥)
-    go (inl h) g = inr (λ n. omega (arith, n .0))
-    go (inr h) (inl g) = inl (h, g)
-    go (inr h) (inr g) = inr (λ n. omega (arith, n .1))
+use Rattle.intel_hex.proofs.Fitting.{names-or-not, later}
+use Rattle.images.proofs.Marking.{one-inside, one-outside}
 
 module _ (r : HexRow) (i o : ℕ) where
-  bit-there : Names r i → oneIn (r .start) (end r) i o ≡ 1
-  bit-there n = in-within (r .start) (end r) i o (n .0) (n .1)
+  bit-there : Names r i → oneIn (r .start) (rowEnd r) i o ≡ 1
+  bit-there n = one-inside (r .start) (rowEnd r) i o (n .0) (n .1)
 
-  bit-kept : (Names r i → ⊥) → oneIn (r .start) (end r) i o ≡ o
-  bit-kept not = go (lt-or-le i (r .start))
-    where
-      go : (i < r .start) ⊎ (r .start ≤ i) → oneIn (r .start) (end r) i o ≡ o
-      go (inl h) = before-within (r .start) (end r) i o h
-      go (inr h) = behind-within (r .start) (end r) i o h (⊎-le (lt-or-le i (end r)))
-        where
-          ⊎-le : (i < end r) ⊎ (end r ≤ i) → end r ≤ i
-          ⊎-le (inl g) = absurd (not (h, g))
-          ⊎-le (inr g) = g
+  bit-kept : (Names r i → ⊥) → oneIn (r .start) (rowEnd r) i o ≡ o
+  bit-kept never = one-outside (r .start) (rowEnd r) i o (λ h g. never (h, g))
 
 -- the order of two rows does not matter
-swapped : (r s : HexRow) (i o : ℕ) → oneIn (r .start) (end r) i (oneIn (s .start) (end s) i o) ≡ oneIn (s .start) (end s) i (oneIn (r .start) (end r) i o)
+swapped : (r s : HexRow) (i o : ℕ) → oneIn (r .start) (rowEnd r) i (oneIn (s .start) (rowEnd s) i o) ≡ oneIn (s .start) (rowEnd s) i (oneIn (r .start) (rowEnd r) i o)
 swapped r s i o = go (names-or-not r i) (names-or-not s i)
   where
-    go : Names r i ⊎ (Names r i → ⊥) → Names s i ⊎ (Names s i → ⊥) → oneIn (r .start) (end r) i (oneIn (s .start) (end s) i o) ≡ oneIn (s .start) (end s) i (oneIn (r .start) (end r) i o)
+    go : Names r i ⊎ (Names r i → ⊥) → Names s i ⊎ (Names s i → ⊥) → oneIn (r .start) (rowEnd r) i (oneIn (s .start) (rowEnd s) i o) ≡ oneIn (s .start) (rowEnd s) i (oneIn (r .start) (rowEnd r) i o)
     go (inl h) (inl g) = bit-there r i _ h ∙ sym (bit-there s i _ g)
     go (inl h) (inr g) = bit-there r i _ h ∙ sym (bit-kept s i _ g ∙ bit-there r i o h)
     go (inr h) (inl g) = bit-kept r i _ h ∙ bit-there s i o g ∙ sym (bit-there s i _ g)
     go (inr h) (inr g) = bit-kept r i _ h ∙ bit-kept s i o g ∙ sym (bit-kept s i _ g ∙ bit-kept r i o h)
 
-pub named-more : (rows : List HexRow) (r : HexRow) (i : ℕ) → namedBit (rows ++ (r ∷ [])) i ≡ oneIn (r .start) (end r) i (namedBit rows i)
+pub named-more : (rows : List HexRow) (r : HexRow) (i : ℕ) → namedBit (rows ++ (r ∷ [])) i ≡ oneIn (r .start) (rowEnd r) i (namedBit rows i)
 unfolding namedBit
 named-more [] r i = refl
 named-more (s ∷ rows) r i = rw (named-more rows r i) (swapped s r i (namedBit rows i))

@@ -1,5 +1,5 @@
 -- A line that is read: its bytes stand at the start of a buffer of 260, and one that has no room there is malformed.
-use Prim.Native.Nat.{ℕ, _-_, _/_, _%_, _≤_, _<_}
+use Prim.Native.Nat.{ℕ, _/_, _%_, _≤_, _<_}
 use mathlib.Core.Path.{_≡_, refl, sym, ap, _∙_}
 use mathlib.Core.Bool.{Bool, true, false}
 use mathlib.Core.Option.{some}
@@ -20,12 +20,12 @@ use Rattle.text.specs.declared.Pairs.{Pairs}
 use Rattle.text.specs.declared.Pairs.the-variants.{Bytes, Bad}
 use Rattle.text.specs.Read.{notDigits, pairsIn, pairsInto}
 use Rattle.text.proofs.Reading.{length-pairs-in}
-use Rattle.images.specs.Format.{hexRow}
-use Rattle.images.specs.Import.{recordIn, lineIn}
+use Rattle.intel_hex.specs.Format.{hexRow}
+use Rattle.intel_hex.specs.Reading.{recordIn, lineIn}
 use Rattle.images.specs.Inside.{lined, Held, extentOf, extentTold}
 use Rattle.images.specs.declared.row.Line.{Line}
 use Rattle.images.specs.declared.row.Line.the-variants.{Row, End, Refused}
-use Rattle.images.proofs.Letters.{octets-in}
+use Rattle.intel_hex.proofs.Letters.{octets-in}
 
 -- more bytes than the largest count asks for
 too-many : (bytes : List ℕ) → at bytes 0 < 256 → 260 < length bytes → refused malformed ≡ recordIn bytes

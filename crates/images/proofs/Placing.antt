@@ -14,12 +14,13 @@ use Rattle.octets.proofs.Choosing.{lt-or-le, refused-accepted, was-above}
 use Rattle.octets.proofs.Outcomes.{then-both, same-value}
 use Rattle.octets.proofs.Parts.{part-within}
 use Rattle.text.specs.Lines.{untilOf}
-use Rattle.images.specs.Format.{HexRow}
-use Rattle.images.specs.Import.{linesIn, withoutCr, lineIn, fitsBehind, rowsAtLast, rowsBehind, rowsFrom, rowsIn, judgedFor, placed, filled, importedInto}
+use Rattle.intel_hex.specs.Format.{HexRow}
+use Rattle.intel_hex.specs.Reading.{linesIn, withoutCr, lineIn, fitsBehind, rowsAtLast, rowsBehind, rowsFrom, rowsIn}
+use Rattle.images.specs.Import.{judgedFor, placed, filled, importedInto}
 use Rattle.images.specs.Inside.{firstLine, behindLine, lined, withRow, rowsHere, placedLine}
 use Rattle.images.specs.declared.row.Line.the-variants.{Row}
-use Rattle.images.proofs.Cut.{until-within, lines-at, lines-last, some-line}
-use Rattle.images.proofs.Texts.{goOn, end-only}
+use Rattle.intel_hex.proofs.Cut.{until-within, lines-at, lines-last, some-line}
+use Rattle.intel_hex.proofs.Texts.{goOn, end-only}
 use Rattle.images.proofs.Lines.{first-ended, first-unended}
 use Rattle.images.proofs.OneLine.{no-colon}
 

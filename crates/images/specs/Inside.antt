@@ -13,8 +13,8 @@ use Rattle.octets.specs.Number.{at}
 use Rattle.octets.specs.Place.{placeAt, partOf}
 use Rattle.text.specs.Lines.{untilOf}
 use Rattle.processor.specs.Memory.{putAt}
-use Rattle.images.specs.Format.{HexRow, hexRow}
-use Rattle.images.specs.Import.{linesIn, withoutCr, lineIn, rowsFrom}
+use Rattle.intel_hex.specs.Format.{HexRow, hexRow}
+use Rattle.intel_hex.specs.Reading.{linesIn, withoutCr, lineIn, rowsFrom}
 use Rattle.images.specs.declared.row.Line.{Line}
 use Rattle.images.specs.declared.row.Line.the-variants.{Row, End, Refused}
 use Rattle.images.specs.declared.judge.Step.{Step}

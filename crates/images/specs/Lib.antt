@@ -1,4 +1,3 @@
-pub mod Format
 pub mod Export
 pub mod Import
 pub mod Store

@@ -2,7 +2,8 @@
 // placed.
 ghost use mathlib.Core.Path.{_≡_};
 ghost use Rattle.octets.specs.Outcome.{done};
-ghost use Rattle.images.specs.Import.{linesIn, importedInto, placed};
+ghost use Rattle.intel_hex.specs.Reading.{linesIn};
+ghost use Rattle.images.specs.Import.{importedInto, placed};
 ghost use Rattle.images.specs.Inside.{rowsHere};
 use crate::judge::judge;
 use crate::row::line_end;

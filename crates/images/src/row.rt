@@ -3,7 +3,7 @@ ghost use mathlib.Core.Path.{_≡_};
 ghost use Prim.Native.Nat.{_≤_};
 ghost use lib.ListN.{length, drop};
 ghost use Rattle.octets.specs.Outcome.{onAccepted};
-ghost use Rattle.images.specs.Import.{endIn, recordIn, lineIn, linesIn, withoutCr};
+ghost use Rattle.intel_hex.specs.Reading.{endIn, recordIn, lineIn, linesIn, withoutCr};
 ghost use Rattle.images.specs.Inside.{lined, Held, extentTold, extentOf, firstLine, behindLine, placedLine};
 use octets::number;
 use octets::refusal;

@@ -14,7 +14,7 @@ use Rattle.octets.specs.Outcome.{Outcome, accepted}
 use Rattle.octets.specs.Over.{over, into}
 use Rattle.octets.proofs.Choosing.{above}
 use Rattle.octets.proofs.InBytes.{length-big, length-little}
-use Rattle.octets.proofs.Overlay.{put-over, put-rest, over-rest, length-over}
+use Rattle.octets.proofs.Overlay.{put-over, put-rest, over-rest, over-next}
 use Rattle.octets.proofs.Parts.{part-short, is-inside}
 use Rattle.packet.proofs.Frames.{length-frame}
 use Rattle.fields.specs.Addr.{addrOf, addrBytes}
@@ -175,10 +175,6 @@ unfolding rising over
 rising-none packet l = refl
 
 module _ (packet : ℕ → List ℕ) (k at : ℕ) (l : List ℕ) (is : at ≡ length (rising packet k)) (room : at + (length (packet k) + 5) ≤ length l) {o y : List ℕ} (wrote : o ≡ over (rising packet k) l) (put : y ≡ over (frameField (packet k)) (take (length o - at) (drop at o))) where
-  rising-put : take at o ++ (y ++ drop (length o - at) (drop at o)) ≡ over (rising packet (k + 1)) l
-  unfolding rising
-  rising-put =
-      over-rest (rising packet k) l wrote (frameField (packet k)) y at put is (omega (arith, length-frame-field (packet k))) ∙ ap (λ (n : ℕ). over (rising packet n) l) (sym (add-one k))
-
   pub rising-next : (length (take at o ++ (y ++ drop (length o - at) (drop at o))) ≡ length l) × (take at o ++ (y ++ drop (length o - at) (drop at o)) ≡ over (rising packet (k + 1)) l)
-  rising-next = (ap length rising-put ∙ length-over _ l (rw (add-one, length-rising packet k) (omega arith)), rising-put)
+  unfolding rising
+  rising-next = over-next (rising packet k) l wrote (frameField (packet k)) y (rising packet (k + 1)) at (ap (rising packet) (add-one k)) put is (omega (arith, length-frame-field (packet k)))

@@ -83,10 +83,14 @@ unfolding pairsOf
 length-pairs [] = refl
 length-pairs (b ∷ l) = rw (length-append, length-hex) (omega (arith, length-pairs l))
 
+pub pairs-append : (a b : List ℕ) → pairsOf (a ++ b) ≡ pairsOf a ++ pairsOf b
+unfolding pairsOf
+pairs-append [] b = refl
+pairs-append (x ∷ a) b = rw (pairs-append a b, append-assoc)
+
 pairs-snoc : (l : List ℕ) (b : ℕ) → pairsOf (l ++ (b ∷ [])) ≡ pairsOf l ++ hexDigits 2 b
 unfolding pairsOf
-pairs-snoc [] b = append-nil (hexDigits 2 b)
-pairs-snoc (a ∷ l) b = rw (pairs-snoc l b, append-assoc)
+pairs-snoc l b = rw (pairs-append l (b ∷ []), append-nil)
 
 -- one byte more, by two stores
 pub pairs-turn : (s l o : List ℕ) (i x y : ℕ) → o ≡ over (pairsOf (take i s)) l → i < length s → 2 * length s ≤ length l

@@ -7,9 +7,9 @@ use lib.ListN.{length}
 use borrow.Author.Needs.{needs}
 use Rattle.octets.proofs.Choosing.{below, above, tests}
 use Rattle.octets.proofs.Overlay.{put-rest}
-use Rattle.images.specs.Format.{endText}
-use Rattle.images.specs.Export.{exportRows, rowsFor, exportOf, exportRoom}
-use Rattle.images.proofs.Exported.{rows-whole, length-export}
+use Rattle.intel_hex.specs.Format.{endText}
+use Rattle.intel_hex.specs.Writing.{exportRows, rowsFor, exportOf, exportRoom}
+use Rattle.intel_hex.proofs.Written.{rows-whole, length-export}
 use Rattle.images.proofs.export.export.Statement.{statement}
 use Rattle.images.proofs.export.export.Tie as tie
 

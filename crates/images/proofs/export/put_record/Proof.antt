@@ -9,7 +9,8 @@ use Rattle.octets.specs.Over.{over}
 use Rattle.octets.proofs.Overlay.{put-over, put-rest, length-over}
 use Rattle.text.specs.Digits.{pairsOf}
 use Rattle.text.proofs.Digits.{length-pairs}
-use Rattle.images.proofs.Exported.{length-head, length-row, line-parts}
+use Rattle.intel_hex.proofs.Written.{length-row}
+use Rattle.images.proofs.Exported.{length-head, line-parts}
 use Rattle.images.proofs.export.put_record.Statement.{statement}
 use Rattle.images.proofs.export.put_record.Tie as tie
 

@@ -5,8 +5,9 @@ use native.Mathlib.Omega.{arith}
 use lib.ListN.{length, length-take, length-drop}
 use borrow.Author.Needs.{needs}
 use Rattle.octets.specs.Over.{over}
-use Rattle.images.specs.Export.{exportRows}
-use Rattle.images.proofs.Exported.{line, length-line, length-rows, rows-none, rows-next}
+use Rattle.intel_hex.specs.Writing.{exportRows}
+use Rattle.intel_hex.proofs.Written.{exportLine, length-line, length-rows}
+use Rattle.images.proofs.Exported.{rows-none, rows-next}
 use Rattle.images.proofs.export.put_rows.Statement.{statement}
 use Rattle.images.proofs.export.put_rows.Tie as tie
 
@@ -33,7 +34,7 @@ loop-again c =
     let e = a .eeprom .now in
     let k = l .loop .k in
     let is : 44 * k ≡ length (exportRows e k) = omega (arith, length-rows e k) in
-    let room : 44 * k + length (line e k) ≤ length (a .out .now) = omega (arith, length-line e k) in
+    let room : 44 * k + length (exportLine e k) ≤ length (a .out .now) = omega (arith, length-line e k) in
     (omega arith, rows-next e k (44 * k) (a .out .now) is room (l .loop .inv .1 .1) (put .put-row .ensures))
 
 returns : tie.Need-returns Inv-loop μ-loop

@@ -2,7 +2,8 @@
 use mathlib.Core.Path.{_≡_, refl, sym, _∙_}
 use lib.ListN.{length}
 use borrow.Author.Needs.{needs}
-use Rattle.images.specs.Import.{linesIn, placed}
+use Rattle.intel_hex.specs.Reading.{linesIn}
+use Rattle.images.specs.Import.{placed}
 use Rattle.images.specs.Inside.{rowsHere}
 use Rattle.images.proofs.Lines.{cut-behind}
 use Rattle.images.proofs.Placing.{placed-more, placed-last, placed-some}

@@ -3,8 +3,8 @@ use mathlib.Core.Path.{_≡_, refl, sym, _∙_}
 use mathlib.Core.List.{List, [], _∷_, _++_}
 use lib.ListN.{length}
 use borrow.Author.Needs.{needs}
-use Rattle.images.specs.Format.{HexRow}
-use Rattle.images.specs.Import.{linesIn, rowsFrom, rowsIn}
+use Rattle.intel_hex.specs.Format.{HexRow}
+use Rattle.intel_hex.specs.Reading.{linesIn, rowsFrom, rowsIn}
 use Rattle.images.specs.Inside.{Marked}
 use Rattle.images.proofs.Lines.{cut-behind}
 use Rattle.images.proofs.Named.{unmarked}

@@ -2,14 +2,15 @@
 use Prim.Native.Nat.{ℕ, _*_, _/_, _%_, _^_}
 use mathlib.Core.Path.{_≡_}
 use native.Mathlib.Omega.{arith}
+use lib.Pow.{pow-pos}
 use borrow.Author.Needs.{needs}
 use Rattle.octets.specs.Number.{at}
-use Rattle.images.proofs.Bits.{some, one-bit, set-byte, one-marked}
+use Rattle.images.proofs.Bits.{one-bit, set-byte, one-marked}
 use Rattle.images.proofs.judge.mark.Statement.{statement}
 use Rattle.images.proofs.judge.mark.Tie as tie
 
 div-if1 : tie.Need-div-if1
-div-if1 c = rw (one-bit (c .before .args .place % 8) (omega arith)) (some (c .before .args .place % 8))
+div-if1 c = rw (one-bit (c .before .args .place % 8) (omega arith)) (pow-pos (c .before .args .place % 8))
 
 returns : tie.Need-returns
 returns c = rw (one-bit (c .before .before .args .place % 8) (omega arith)) at (c .if1 .taken)

@@ -8,7 +8,7 @@ use lib.ListN.{length}
 use borrow.Author.Needs.{needs}
 use Rattle.octets.proofs.Choosing.{lt-or-le}
 use Rattle.images.specs.Inside.{bitAt, oneIn}
-use Rattle.images.proofs.Marking.{none-within, more-within, behind-within}
+use Rattle.images.proofs.Marking.{one-outside, one-further}
 use Rattle.images.proofs.judge.mark_row.Statement.{statement}
 use Rattle.images.proofs.judge.mark_row.Tie as tie
 
@@ -30,7 +30,7 @@ earlier s p l none one i h g = go (lt-or-le i p)
     go (inr k) = let e : i ≡ p = omega arith in rw e one
 
 loop-holds : tie.Need-loop-holds Inv-loop μ-loop
-loop-holds c = (omega arith, omega arith, refl, (λ i h g. absurd (omega arith)), λ i. sym (none-within _ i _))
+loop-holds c = (omega arith, omega arith, refl, (λ i h g. absurd (omega arith)), λ i. sym (one-outside _ _ i _ (λ h g. omega arith)))
 
 mark-requires : tie.Need-mark-requires Inv-loop μ-loop
 mark-requires c κs = (omega arith, omega arith)
@@ -39,19 +39,19 @@ returns : tie.Need-returns Inv-loop μ-loop
 returns c =
     let l = c .before .before .before .before .before .before in
     let marked = rw (c .if1 .taken) at (c .before .before .before .mark .ensures) in
-    (l .loop .place, omega arith, omega arith, sym (behind-within _ (l .loop .place) (l .loop .place) _ (omega arith) (omega arith)) ∙ sym (l .loop .inv .4 (l .loop .place)) ∙ marked)
+    (l .loop .place, omega arith, omega arith, sym (one-outside _ (l .loop .place) (l .loop .place) _ (λ h g. omega arith)) ∙ sym (l .loop .inv .4 (l .loop .place)) ∙ marked)
 
 loop-again : tie.Need-loop-again Inv-loop μ-loop
 loop-again c =
     let l = c .before .before .before .before .before .before in
     let p = l .loop .place in
     let one = rw (c .if1 .left) at (c .before .before .before .mark .ensures) in
-    let was = sym (behind-within _ p p _ (omega arith) (omega arith)) ∙ sym (l .loop .inv .4 p) ∙ one .0 in (
+    let was = sym (one-outside _ p p _ (λ h g. omega arith)) ∙ sym (l .loop .inv .4 p) ∙ one .0 in (
       omega arith,
       omega arith,
       one .1 ∙ l .loop .inv .2,
       (λ i h g. earlier (l .before .before .args .start) p (l .before .before .args .marks .now) (l .loop .inv .3) was i h g),
-      λ i. one .2 i ∙ rw (l .loop .inv .4 i) (more-within (l .before .before .args .start) p i _ (omega arith)),
+      λ i. one .2 i ∙ rw (l .loop .inv .4 i) (one-further (l .before .before .args .start) p i _ (omega arith)),
     )
 
 returns-2 : tie.Need-returns-2 Inv-loop μ-loop

@@ -11,10 +11,10 @@ use Rattle.images.proofs.OneLine.{no-colon, well-read, badly-read, line
 use Rattle.images.proofs.row.read_line.Statement.{statement}
 use Rattle.images.proofs.row.read_line.Tie as tie
 
--- a line with a first byte has one
-some : (l : List ℕ) → at l 0 ≡ 58 → 1 ≤ length l
-some [] h = absurd (omega arith)
-some (b ∷ l) h = omega arith
+-- a line with a colon has a byte
+colon-first : (l : List ℕ) → at l 0 ≡ 58 → 1 ≤ length l
+colon-first [] h = absurd (omega arith)
+colon-first (b ∷ l) h = omega arith
 
 digits-are : (l : List ℕ) → take (length l - 1) (drop 1 l) ≡ drop 1 l
 digits-are l = take-all (length l - 1) (drop 1 l) (omega (arith, length-drop 1 l))
@@ -23,10 +23,10 @@ returns : tie.Need-returns
 returns c = (no-colon _ (λ e. c .if1 .taken (c .before .byte .ensures ∙ e)), tt)
 
 sub-read-pairs : tie.Need-sub-read-pairs
-sub-read-pairs c = some (c .before .before .before .before .args .line .now) (sym (c .before .byte .ensures) ∙ c .if1 .left)
+sub-read-pairs c = colon-first (c .before .before .before .before .args .line .now) (sym (c .before .byte .ensures) ∙ c .if1 .left)
 
 part-read-pairs-start : tie.Need-part-read-pairs-start
-part-read-pairs-start c = some (c .before .before .before .before .args .line .now) (sym (c .before .byte .ensures) ∙ c .if1 .left)
+part-read-pairs-start c = colon-first (c .before .before .before .before .args .line .now) (sym (c .before .byte .ensures) ∙ c .if1 .left)
 
 part-record-of-end : tie.Need-part-record-of-end
 part-record-of-end c =

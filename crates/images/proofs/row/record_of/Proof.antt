@@ -3,7 +3,7 @@ use mathlib.Core.Path.{refl, sym, _∙_}
 use native.Mathlib.Omega.{arith}
 use borrow.Author.Needs.{needs}
 use Rattle.octets.proofs.Choosing.{below, above, same, other}
-use Rattle.images.specs.Import.{recordIn}
+use Rattle.intel_hex.specs.Reading.{recordIn}
 use Rattle.images.proofs.row.record_of.Statement.{statement}
 use Rattle.images.proofs.row.record_of.Tie as tie
 

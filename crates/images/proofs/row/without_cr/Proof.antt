@@ -5,8 +5,8 @@ use mathlib.Core.List.{List, [], _∷_}
 use native.Mathlib.Omega.{arith}
 use lib.ListN.{length}
 use borrow.Author.Needs.{needs}
-use Rattle.images.specs.Import.{withoutCr}
-use Rattle.images.proofs.Cut.{cr-there, cr-not-there}
+use Rattle.intel_hex.specs.Reading.{withoutCr}
+use Rattle.intel_hex.proofs.Cut.{cr-there, cr-not-there}
 use Rattle.images.proofs.row.without_cr.Statement.{statement}
 use Rattle.images.proofs.row.without_cr.Tie as tie
 

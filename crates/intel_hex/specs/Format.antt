@@ -1,5 +1,5 @@
 -- The format, "the public Hexadecimal Object File Format Specification, types 00 and 01 only": which texts there are. How a text is
--- read, and what is refused in which order, stands in Import.antt.
+-- read stands in Reading.antt, and what is wrong with a text that is none in Faults.antt.
 use Prim.Native.Nat.{ℕ, _+_, _-_, _%_, _≤_, _<_}
 use mathlib.Core.Path.{_≡_}
 use mathlib.Core.Option.{Option, none, some}
@@ -10,6 +10,7 @@ use Rattle.octets.specs.Number.{Octets, bigBytes}
 use Rattle.text.specs.Digits.{pairsOf}
 use Rattle.packet.specs.Frame.{checksumOf}
 
+-- ---- a row
 -- what a data record says: bytes from an address on
 pub record HexRow : Type 0 where
   pub start : ℕ
@@ -18,16 +19,28 @@ pub record HexRow : Type 0 where
 abbrev pub hexRow : ℕ → List ℕ → HexRow
 hexRow start bytes = record { start = start; bytes = bytes }
 
--- its bytes: how many data bytes there are, the address, type 00, the data
+-- behind the last byte that it names
+abbrev pub rowEnd : HexRow → ℕ
+rowEnd r = r .start + length (r .bytes)
+
+-- that its count and its address can be said: a byte, and two
+abbrev pub Sayable : HexRow → Type 0
+Sayable r = Octets (r .bytes) × (length (r .bytes) < 256) × (r .start < 65536)
+
+-- its record's bytes: how many data bytes there are, the address, type 00, the data
 abbrev pub recordOf : HexRow → List ℕ
 recordOf r = length (r .bytes) ∷ (bigBytes 2 (r .start) ++ (0 ∷ r .bytes))
 
--- the checksum behind them makes the sum of all 0 modulo 256
+-- and one behind them
+abbrev pub withSum : HexRow → ℕ → List ℕ
+withSum r sum = recordOf r ++ (sum ∷ [])
+
+-- the checksum makes the sum of all 0 modulo 256
 abbrev pub complement : ℕ → ℕ
 complement sum = (256 - sum) % 256
 
 abbrev pub closedRecord : HexRow → List ℕ
-closedRecord r = recordOf r ++ (complement (checksumOf (recordOf r)) ∷ [])
+closedRecord r = withSum r (complement (checksumOf (recordOf r)))
 
 -- a colon, and each byte as two digits
 unfoldable pub rowText : HexRow → List ℕ
@@ -37,6 +50,7 @@ rowText r = 58 ∷ pairsOf (closedRecord r)
 abbrev pub endText : List ℕ
 endText = 58 ∷ 48 ∷ 48 ∷ 48 ∷ 48 ∷ 48 ∷ 48 ∷ 48 ∷ 49 ∷ 70 ∷ 70 ∷ []
 
+-- ---- lines
 -- "with LF or CRLF"
 pub data LineEnd : Type 0 where
   lf : LineEnd
@@ -51,15 +65,14 @@ abbrev pub lastEnding : Option LineEnd → List ℕ
 lastEnding none = []
 lastEnding (some e) = ending e
 
--- the lines of these rows alone, each with its line end
+-- the lines of these rows, each with its line end
 abbrev pub RowLines : List HexRow → List ℕ → Type 0
 RowLines [] text = text ≡ []
 RowLines (r ∷ rows) text = (end : LineEnd) × (behind : List ℕ) × (text ≡ rowText r ++ (ending end ++ behind)) × RowLines rows behind
 
--- a text of these rows: each with its line end, then the end record
+-- a text of these rows: their lines, then the end record
 abbrev pub TextOf : List HexRow → List ℕ → Type 0
-TextOf [] text = (last : Option LineEnd) × (text ≡ endText ++ lastEnding last)
-TextOf (r ∷ rows) text = (end : LineEnd) × (behind : List ℕ) × (text ≡ rowText r ++ (ending end ++ behind)) × TextOf rows behind
+TextOf rows text = (front : List ℕ) × (last : Option LineEnd) × (text ≡ front ++ (endText ++ lastEnding last)) × RowLines rows front
 
 -- "either case": the same in capitals
 abbrev pub capital : ℕ → ℕ
@@ -69,13 +82,14 @@ unfoldable pub capitals : List ℕ → List ℕ
 capitals [] = []
 capitals (b ∷ l) = capital b ∷ capitals l
 
--- a row of bytes that its count and its address can say, and that lies in an image of e bytes
+-- ---- rows in an image of e bytes
+-- "addresses do not wrap"
 abbrev pub RowFits : ℕ → HexRow → Type 0
-RowFits e r = Octets (r .bytes) × (length (r .bytes) < 256) × (r .start < 65536) × (r .start + length (r .bytes) ≤ e)
+RowFits e r = Sayable r × (rowEnd r ≤ e)
 
 -- "two rows may not name one byte"
 abbrev pub Names : HexRow → ℕ → Type 0
-Names r i = (r .start ≤ i) × (i < r .start + length (r .bytes))
+Names r i = (r .start ≤ i) × (i < rowEnd r)
 
 abbrev pub Apart : HexRow → HexRow → Type 0
 Apart r s = (i : ℕ) → Names r i → Names s i → ⊥
@@ -89,7 +103,7 @@ abbrev pub RowsFit : ℕ → List HexRow → List HexRow → Type 0
 RowsFit e before [] = Unit
 RowsFit e before (r ∷ rows) = RowFits e r × ApartFrom r before × RowsFit e (before ++ (r ∷ [])) rows
 
--- a text of the format for an image of e bytes, with its rows
+-- ---- a text of the format for an image of e bytes, with its rows
 pub record IsHex (e : ℕ) (text : List ℕ) (rows : List HexRow) : Type 0 where
   pub reads : TextOf rows (capitals text)
   pub fitting : RowsFit e [] rows

@@ -1,7 +1,6 @@
--- A text is accepted exactly if it is one of the format, with its rows; and the first bad row gives the number.
+-- A text is read exactly if it is one of the format, with its rows.
 use Prim.Native.Nat.{ℕ, _<_}
 use mathlib.Core.Path.{_≡_, refl, sym, ap, _∙_}
-use mathlib.Core.Logic.{_⊎_, ⊎-elim}
 use mathlib.Core.Option.{Option, none, some}
 use mathlib.Core.List.{List, [], _∷_, _++_, append-assoc, append-nil}
 use native.Mathlib.Omega.{arith}
@@ -9,27 +8,28 @@ use Rattle.octets.specs.Refusals.{malformed}
 use Rattle.octets.specs.Outcome.{Outcome, accepted, refused, andThen}
 use Rattle.octets.proofs.Choosing.{either-eq, refused-accepted}
 use Rattle.octets.proofs.Outcomes.{then-both, same-value}
-use Rattle.images.specs.Format.{HexRow, rowText, endText, LineEnd, lf, crlf, ending, lastEnding, TextOf, RowLines, capitals, RowFits, ApartFrom, RowsFit, IsHex}
-use Rattle.images.specs.Import.{joined, linesIn, withoutCr, lineIn, fitsBehind, rowsAtLast, rowsAtEnd, rowsBehind, rowsFrom, rowsIn}
-use Rattle.images.proofs.Cut.{Without, lines-front, lines-only, some-line, together, lines-together, cr-cut, cr-none, cr-either, capitals-append, nothing, without-capitals, cut-capitals, ending-capitals, ending-was, without-append, row-without, end-without}
-use Rattle.images.proofs.Fitting.{is-fitting, fitting-is}
-use Rattle.images.proofs.Spelled.{row-of-line, line-of-row, end-of-line, line-of-end}
+use Rattle.intel_hex.specs.Format.{HexRow, rowText, endText, LineEnd, lf, crlf, ending, lastEnding, TextOf, RowLines, capitals, RowFits, ApartFrom, RowsFit, IsHex}
+use Rattle.intel_hex.specs.Reading.{joined, linesIn, withoutCr, lineIn, fitsBehind, rowsAtLast, rowsAtEnd, rowsBehind, rowsFrom, rowsIn}
+use Rattle.intel_hex.specs.Faults.{Without, Before}
+use Rattle.intel_hex.proofs.Cut.{without-append, lines-front, lines-only, some-line, together, lines-together, cr-cut, cr-kept, ended, before-either, capitals-append, nothing, without-capitals, cut-capitals, ending-capitals, ending-was, row-without, end-without}
+use Rattle.intel_hex.proofs.Fitting.{is-fitting, fitting-is}
+use Rattle.intel_hex.proofs.Spelled.{row-of-line, line-of-row, end-of-line, line-of-end}
 
 -- ---- what is accepted is of the format
--- a line and its line end, in capitals
-ended : (line t : List ℕ) (end : LineEnd) (behind : List ℕ) → capitals line ≡ t → capitals (line ++ (ending end ++ behind)) ≡ t ++ (ending end ++ capitals behind)
-ended line t end behind h = capitals-append line (ending end ++ behind) ∙ rw (h, ending-capitals end behind)
+-- a line and its LF, in capitals
+pub ended-capitals : (line t behind : List ℕ) → capitals (withoutCr line) ≡ t → capitals (line ++ (10 ∷ behind)) ≡ t ++ (ending (ended line .end) ++ capitals behind)
+ended-capitals line t behind h =
+    let end : LineEnd = ended line .end in
+    ap capitals (ended line .cut behind) ∙ capitals-append (withoutCr line) (ending end ++ behind) ∙ rw (h, ending-capitals end behind)
 
-pub ended-by : (line t behind : List ℕ) → capitals (withoutCr line) ≡ t → (end : LineEnd) × (capitals (line ++ (10 ∷ behind)) ≡ t ++ (ending end ++ capitals behind))
-ended-by line t behind h = ⊎-elim bare cut (cr-either line)
-  where
-    bare : line ≡ withoutCr line → (end : LineEnd) × (capitals (line ++ (10 ∷ behind)) ≡ t ++ (ending end ++ capitals behind))
-    bare e = (lf, ended line t lf behind (ap capitals e ∙ h))
-
-    cut : line ≡ withoutCr line ++ (13 ∷ []) → (end : LineEnd) × (capitals (line ++ (10 ∷ behind)) ≡ t ++ (ending end ++ capitals behind))
-    cut e =
-        let moved : line ++ (10 ∷ behind) ≡ withoutCr line ++ (ending crlf ++ behind) = ap (λ (l : List ℕ). l ++ (10 ∷ behind)) e ∙ append-assoc (withoutCr line) (13 ∷ []) (10 ∷ behind) in
-        (crlf, ap capitals moved ∙ ended (withoutCr line) t crlf behind h)
+-- a row's line before a text
+pub text-more : (r : HexRow) (rows : List HexRow) (end : LineEnd) (behind : List ℕ) → TextOf rows behind → TextOf (r ∷ rows) (rowText r ++ (ending end ++ behind))
+text-more r rows end behind h = (
+  rowText r ++ (ending end ++ h .0),
+  h .1,
+  ap (λ (l : List ℕ). rowText r ++ (ending end ++ l)) (h .2) ∙ simp append-assoc,
+  (end, h .0, refl, h .3),
+)
 
 -- the rows that a text has behind others
 record Goes (e : ℕ) (before all : List HexRow) (text : List ℕ) : Type 0 where
@@ -42,7 +42,7 @@ sound-last : (e : ℕ) (before all : List HexRow) (line : List ℕ) → rowsAtLa
 sound-last e before all line = go (lineIn line) refl
   where
     go : (o : Outcome (Option HexRow)) → lineIn line ≡ o → rowsAtLast before o ≡ accepted all → Goes e before all line
-    go (accepted none) q h = record { rows = []; whole = sym (same-value h) ∙ sym (append-nil before); reads = (none, end-of-line line q); fitting = tt }
+    go (accepted none) q h = record { rows = []; whole = sym (same-value h) ∙ sym (append-nil before); reads = ([], none, end-of-line line q, refl); fitting = tt }
     go (accepted (some r)) q h = absurd (refused-accepted h)
     go (refused k) q h = absurd (refused-accepted h)
 
@@ -75,16 +75,20 @@ module _ (e : ℕ) (before all : List HexRow) (line : List ℕ) (lines : List (L
       → Goes e before all (line ++ (10 ∷ together lines))
   sound-row r q f g =
       let s = row-of-line (withoutCr line) r q in
-      let t = ended-by line (rowText r) (together lines) (s .0) in
       let fit = is-fitting e before r f in
-      record { rows = r ∷ g .rows; whole = g .whole ∙ append-assoc before (r ∷ []) (g .rows); reads = (t .0, capitals (together lines), t .1, g .reads); fitting = ((s .1, s .2, s .3, fit .0), fit .1, g .fitting) }
+      record {
+        rows = r ∷ g .rows;
+        whole = g .whole ∙ append-assoc before (r ∷ []) (g .rows);
+        reads = rw (ended-capitals line (rowText r) (together lines) (s .0)) (text-more r (g .rows) (ended line .end) (capitals (together lines)) (g .reads));
+        fitting = ((s .1, fit .0), fit .1, g .fitting);
+      }
 
   sound-end : lineIn (withoutCr line) ≡ accepted none → rowsAtEnd before lines ≡ accepted all → Goes e before all (line ++ (10 ∷ together lines))
   unfolding capitals
   sound-end q h =
       let o = end-only before lines all h in
-      let t = ended-by line endText [] (end-of-line (withoutCr line) q) in
-      record { rows = []; whole = o .1 ∙ sym (append-nil before); reads = rw (o .0) (some (t .0), t .1 ∙ rw append-nil); fitting = tt }
+      let t = ended-capitals line endText [] (end-of-line (withoutCr line) q) in
+      record { rows = []; whole = o .1 ∙ sym (append-nil before); reads = rw (o .0) ([], some (ended line .end), t ∙ rw append-nil, refl); fitting = tt }
 
   sound-line : ((r : HexRow) → rowsFrom e (before ++ (r ∷ [])) lines ≡ accepted all → Goes e (before ++ (r ∷ [])) all (together lines))
       → (o : Outcome (Option HexRow)) → lineIn (withoutCr line) ≡ o → rowsBehind before lines (goOn e before lines) o ≡ accepted all → Goes e before all (line ++ (10 ∷ together lines))
@@ -119,15 +123,15 @@ step : (e : ℕ) (before : List HexRow) (line behind : List ℕ) → Without 10 
 step e before line behind h = rw (lines-front line behind h) (step-lines e before line (linesIn behind) (some-line behind))
 
 -- and by the last one
-step-last : (e : ℕ) (before : List HexRow) (line : List ℕ) → Without 10 line → rowsFrom e before (linesIn line) ≡ rowsAtLast before (lineIn line)
+pub step-last : (e : ℕ) (before : List HexRow) (line : List ℕ) → Without 10 line → rowsFrom e before (linesIn line) ≡ rowsAtLast before (lineIn line)
 unfolding rowsFrom
 step-last e before line h = rw (lines-only line h)
 
--- by a line with either line end
-step-ended : (e : ℕ) (before : List HexRow) (line : List ℕ) (end : LineEnd) (behind : List ℕ) → Without 10 line → Without 13 line
+-- by a line before its line end
+pub step-ended : (e : ℕ) (before : List HexRow) (line : List ℕ) (end : LineEnd) (behind : List ℕ) → Before end line
     → rowsFrom e before (linesIn (line ++ (ending end ++ behind))) ≡ rowsBehind before (linesIn behind) (goOn e before (linesIn behind)) (lineIn line)
-step-ended e before line lf behind h g = step e before line behind h ∙ rw (cr-none line g)
-step-ended e before line crlf behind h g =
+step-ended e before line lf behind h = step e before line behind (h .0) ∙ rw (cr-kept line (h .1))
+step-ended e before line crlf behind h =
     let with-cr : Without 10 (line ++ (13 ∷ [])) = without-append 10 line (13 ∷ []) h (omega arith) in
     rw (← append-assoc line (13 ∷ []) (10 ∷ behind)) (step e before (line ++ (13 ∷ [])) behind with-cr ∙ rw (cr-cut line))
 
@@ -145,20 +149,18 @@ begins text t end behind h =
     let b = cut-capitals (a .1) (ending end) behind (a .4) in
     record { line = a .0; rest = b .1; cut = a .2 ∙ ap (λ (l : List ℕ). a .0 ++ l) (b .2 ∙ ap (λ (l : List ℕ). l ++ b .1) (ending-was end (b .0) (b .3))); is = a .3; leaves = b .4 }
 
--- by a line that spells a record
-step-record : (e : ℕ) (before : List HexRow) (line t : List ℕ) (end : LineEnd) (behind : List ℕ) → capitals line ≡ t → ((b : ℕ) → b < 48 → Without b t)
-    → rowsFrom e before (linesIn (line ++ (ending end ++ behind))) ≡ rowsBehind before (linesIn behind) (goOn e before (linesIn behind)) (lineIn line)
-step-record e before line t end behind h w =
-    step-ended e before line end behind (without-capitals 10 line (omega arith) (rw h (w 10 (omega arith)))) (without-capitals 13 line (omega arith) (rw h (w 13 (omega arith))))
+-- a line that spells a record stands before its line end
+pub before-spelled : (line t : List ℕ) (end : LineEnd) → capitals line ≡ t → ((b : ℕ) → b < 48 → Without b t) → Before end line
+before-spelled line t end h w = before-either end line (without-capitals 10 line (omega arith) (rw h (w 10 (omega arith)))) (without-capitals 13 line (omega arith) (rw h (w 13 (omega arith))))
 
 past-one : (e : ℕ) (before : List HexRow) (r : HexRow) (line : List ℕ) (end : LineEnd) (behind : List ℕ) → capitals line ≡ rowText r → RowFits e r → ApartFrom r before
     → rowsFrom e before (linesIn (line ++ (ending end ++ behind))) ≡ rowsFrom e (before ++ (r ∷ [])) (linesIn behind)
 past-one e before r line end behind h f a =
-    step-record e before line (rowText r) end behind h (λ b low. row-without b low r)
-    ∙ rw (line-of-row line r h (f .0) (f .1) (f .2), fitting-is e before r (f .3) a)
+    step-ended e before line end behind (before-spelled line (rowText r) end h (λ b low. row-without b low r))
+    ∙ rw (line-of-row line r h (f .0), fitting-is e before r (f .1) a)
 
 -- the lines of rows that fit are passed
-past : (rows : List HexRow) (e : ℕ) (before : List HexRow) (front text : List ℕ) → RowLines rows (capitals front) → RowsFit e before rows
+pub past : (rows : List HexRow) (e : ℕ) (before : List HexRow) (front text : List ℕ) → RowLines rows (capitals front) → RowsFit e before rows
     → rowsFrom e before (linesIn (front ++ text)) ≡ rowsFrom e (before ++ rows) (linesIn text)
 past [] e before front text h f = rw (nothing front h, append-nil)
 past (r ∷ rows) e before front text h f =
@@ -174,42 +176,11 @@ unfolding linesIn
 end-accepted e rows text none h = step-last e rows text (without-capitals 10 text (omega arith) (rw h (end-without 10 (omega arith)))) ∙ rw (line-of-end text h)
 end-accepted e rows text (some end) h =
     let b = begins text endText end [] (h ∙ rw append-nil) in
-    rw (b .cut, nothing (b .rest) (b .leaves)) (step-record e rows (b .line) endText end [] (b .is) end-without ∙ rw (line-of-end (b .line) (b .is)))
-
-text-lines : (rows : List HexRow) (text : List ℕ) → TextOf rows text → (front : List ℕ) × (last : Option LineEnd) × (text ≡ front ++ (endText ++ lastEnding last)) × RowLines rows front
-text-lines [] text h = ([], h .0, h .1, refl)
-text-lines (r ∷ rows) text h =
-    let g = text-lines rows (h .1) (h .3) in
-    (rowText r ++ (ending (h .0) ++ g .0), g .1, h .2 ∙ ap (λ (l : List ℕ). rowText r ++ (ending (h .0) ++ l)) (g .2) ∙ simp append-assoc, (h .0, g .0, refl, g .3))
+    rw (b .cut, nothing (b .rest) (b .leaves)) (step-ended e rows (b .line) end [] (before-spelled (b .line) endText end (b .is) end-without) ∙ rw (line-of-end (b .line) (b .is)))
 
 pub complete : (e : ℕ) (text : List ℕ) (rows : List HexRow) → IsHex e text rows → rowsIn e text ≡ accepted rows
 unfolding rowsIn
 complete e text rows h =
-    let g = text-lines rows (capitals text) (h .reads) in
+    let g = h .reads in
     let c = cut-capitals text (g .0) (endText ++ lastEnding (g .1)) (g .2) in
     rw (c .2) (past rows e [] (c .0) (c .1) (rw (c .3) (g .3)) (h .fitting) ∙ end-accepted e rows (c .1) (g .1) (c .4))
-
--- ---- what is refused: behind good rows, the first line that is bad gives its number
--- a line that is no record, or whose row does not fit behind the others
-abbrev pub BadLine : ℕ → List HexRow → List ℕ → ℕ → Type 0
-BadLine e rows line k = (lineIn line ≡ refused k) ⊎ ((r : HexRow) × (lineIn line ≡ accepted (some r)) × (fitsBehind e rows r ≡ refused k))
-
-module _ (e : ℕ) (rows : List HexRow) (front : List ℕ) (good : RowLines rows (capitals front)) (fit : RowsFit e [] rows) (line : List ℕ) (one : Without 10 line) where
-  pub first-bad : (behind : List ℕ) (k : ℕ) → BadLine e rows (withoutCr line) k → rowsIn e (front ++ (line ++ (10 ∷ behind))) ≡ refused k
-  unfolding rowsIn
-  first-bad behind k bad = past rows e [] front (line ++ (10 ∷ behind)) good fit ∙ step e rows line behind one ∙ ⊎-elim (λ h. rw h) (λ h. rw (h .1, h .2)) bad
-
-  -- "no end record"
-  pub no-end : (lineIn line ≡ accepted none → ⊥) → rowsIn e (front ++ line) ≡ refused malformed
-  unfolding rowsIn
-  no-end h = past rows e [] front line good fit ∙ step-last e rows line one ∙ go (lineIn line) h
-    where
-      go : (o : Outcome (Option HexRow)) → (o ≡ accepted none → ⊥) → rowsAtLast rows o ≡ refused malformed
-      go (accepted none) g = absurd (g refl)
-      go (accepted (some r)) g = refl
-      go (refused k) g = refl
-
-  -- "or text after it"
-  pub behind-end : (b : ℕ) (behind : List ℕ) → lineIn (withoutCr line) ≡ accepted none → rowsIn e (front ++ (line ++ (10 ∷ b ∷ behind))) ≡ refused malformed
-  unfolding rowsIn
-  behind-end b behind h = past rows e [] front (line ++ (10 ∷ b ∷ behind)) good fit ∙ step e rows line (b ∷ behind) one ∙ rw h (not-at-end rows b behind)

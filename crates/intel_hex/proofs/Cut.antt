@@ -1,26 +1,35 @@
 -- Laws of lines: the first line of a text ends at its first LF, and its last line is what has none. A CR before the LF is
 -- no part of it, and capitals leave line ends as they are.
 use Prim.Native.Nat.{ℕ, zero, suc, _+_, _≤_, _<_}
-use mathlib.Core.Path.{_≡_, refl, sym, ap, _∙_}
+use mathlib.Core.Path.{_≡_, refl, sym, ap, _∙_, subst}
 use mathlib.Core.Logic.{_⊎_, inl, inr, ⊎-elim}
-use mathlib.Core.List.{List, [], _∷_, _++_, cons≢nil}
+use mathlib.Core.List.{List, [], _∷_, _++_, append-assoc, cons≢nil}
 use native.Mathlib.Nat.{suc-add}
 use native.Mathlib.Omega.{arith}
-use lib.ListN.{length, take, drop, take-append-drop}
+use lib.ListN.{length, take, drop, length-append, take-append-drop}
 use lib.Seq.{take-length, take-suc, take-at, drop-at}
 use Rattle.octets.specs.Choice.{ifEq}
 use Rattle.octets.specs.Number.{at}
 use Rattle.octets.proofs.Choosing.{same, other, either-lt, either-eq, if-eq-of, lt-or-le}
 use Rattle.text.specs.Digits.{hexDigit, hexDigits, pairsOf}
 use Rattle.text.specs.Lines.{untilOf}
-use Rattle.images.specs.Format.{HexRow, closedRecord, rowText, endText, LineEnd, lf, crlf, ending, capital, capitals}
-use Rattle.images.specs.Import.{joined, linesIn, withoutCr}
-use Rattle.images.proofs.Letters.{kept-low, was-low}
+use Rattle.intel_hex.specs.Format.{HexRow, closedRecord, rowText, endText, LineEnd, lf, crlf, ending, capital, capitals}
+use Rattle.intel_hex.specs.Reading.{joined, linesIn, withoutCr}
+use Rattle.intel_hex.specs.Faults.{Without, Before}
+use Rattle.intel_hex.proofs.Letters.{kept-low, was-low}
 
--- a list that has no b
-abbrev pub Without : ℕ → List ℕ → Type 0
-Without b [] = Unit
-Without b (c ∷ l) = (c ≡ b → ⊥) × Without b l
+-- ---- lists that have no b
+pub without-append : (b : ℕ) (p q : List ℕ) → Without b p → Without b q → Without b (p ++ q)
+without-append b [] q h g = g
+without-append b (c ∷ p) q h g = (h .0, without-append b p q (h .1) g)
+
+without-front : (b : ℕ) (p q : List ℕ) → Without b (p ++ q) → Without b p
+without-front b [] q h = tt
+without-front b (c ∷ p) q h = (h .0, without-front b p q (h .1))
+
+without-last : (b : ℕ) (p : List ℕ) → Without b (p ++ (b ∷ [])) → ⊥
+without-last b [] h = h .0 refl
+without-last b (c ∷ p) h = without-last b p (h .1)
 
 -- ---- the first byte that is b
 -- what stands before it
@@ -132,17 +141,45 @@ module _ (l : List ℕ) (n : ℕ) (long : n + 1 ≡ length l) where
   pub cr-not-there : (at l n ≡ 13 → ⊥) → withoutCr l ≡ l
   cr-not-there e = ap withoutCr split-last ∙ cr-last (take n l) (at l n) ∙ sym (other _ _ _ _ _ e split-last)
 
-pub cr-none : (l : List ℕ) → Without 13 l → withoutCr l ≡ l
-unfolding withoutCr
-cr-none [] h = refl
-cr-none (b ∷ []) h = sym (other _ _ _ _ _ (h .0) refl)
-cr-none (b ∷ c ∷ l) h = ap (λ (r : List ℕ). b ∷ r) (cr-none (c ∷ l) (h .1))
-
 pub cr-either : (l : List ℕ) → (l ≡ withoutCr l) ⊎ (l ≡ withoutCr l ++ (13 ∷ []))
 unfolding withoutCr
 cr-either [] = inl refl
 cr-either (b ∷ []) = either-eq (λ (r : List ℕ). (b ∷ [] ≡ r) ⊎ (b ∷ [] ≡ r ++ (13 ∷ []))) b 13 _ _ (λ e. inr (rw e)) (λ e. inl refl)
 cr-either (b ∷ c ∷ l) = ⊎-elim (λ e. inl (ap (λ (r : List ℕ). b ∷ r) e)) (λ e. inr (ap (λ (r : List ℕ). b ∷ r) e)) (cr-either (c ∷ l))
+
+pub cr-kept : (l : List ℕ) → ((front : List ℕ) → l ≡ front ++ (13 ∷ []) → ⊥) → withoutCr l ≡ l
+cr-kept l never = ⊎-elim (λ e. sym e) (λ e. absurd (never (withoutCr l) e)) (cr-either l)
+
+-- what is kept has none at its end
+cr-gone : (l : List ℕ) → l ≡ withoutCr l → (front : List ℕ) → l ≡ front ++ (13 ∷ []) → ⊥
+cr-gone l e front f =
+    let same-front : front ≡ front ++ (13 ∷ []) = sym (e ∙ ap withoutCr f ∙ cr-cut front) ∙ f in
+    omega (arith, ap length same-front, length-append front (13 ∷ []))
+
+-- a line and its LF, as a line and its line end
+pub record Ended (line : List ℕ) : Type 0 where
+  pub end : LineEnd
+  pub cut : (behind : List ℕ) → line ++ (10 ∷ behind) ≡ withoutCr line ++ (ending end ++ behind)
+  pub before : Without 10 line → Before end (withoutCr line)
+
+pub ended : (line : List ℕ) → Ended line
+ended line = ⊎-elim bare with-cr (cr-either line)
+  where
+    bare : line ≡ withoutCr line → Ended line
+    bare e = record { end = lf; cut = λ behind. ap (λ (l : List ℕ). l ++ (10 ∷ behind)) e; before = λ h. subst (Before lf) e (h, cr-gone line e) }
+
+    with-cr : line ≡ withoutCr line ++ (13 ∷ []) → Ended line
+    with-cr e =
+        record {
+          end = crlf;
+          cut = λ behind. ap (λ (l : List ℕ). l ++ (10 ∷ behind)) e ∙ append-assoc (withoutCr line) (13 ∷ []) (10 ∷ behind);
+          before = λ h. without-front 10 (withoutCr line) (13 ∷ []) (subst (Without 10) e h);
+        }
+
+-- a line that has neither stands before either
+pub before-either : (end : LineEnd) (line : List ℕ) → Without 10 line → Without 13 line → Before end line
+before-either lf line h g = (h, λ front e. without-last 13 front (subst (Without 13) e g))
+before-either crlf line h g = h
 
 -- ---- capitals
 pub capitals-append : (a b : List ℕ) → capitals (a ++ b) ≡ capitals a ++ capitals b
@@ -198,10 +235,6 @@ ending-was crlf (b ∷ c ∷ []) h =
 ending-was crlf (b ∷ c ∷ d ∷ l) h = let z : _≡_ {A = ℕ} 0 1 = cc in absurd (omega arith)
 
 -- ---- no record's text has one
-pub without-append : (b : ℕ) (p q : List ℕ) → Without b p → Without b q → Without b (p ++ q)
-without-append b [] q h g = g
-without-append b (c ∷ p) q h g = (h .0, without-append b p q (h .1) g)
-
 module _ (b : ℕ) (low : b < 48) where
   digit-without : (d : ℕ) → hexDigit d ≡ b → ⊥
   digit-without d = either-lt (λ (c : ℕ). c ≡ b → ⊥) d 10 _ _ (λ h e. omega arith) (λ h e. omega arith)

@@ -20,8 +20,8 @@ use Rattle.octets.proofs.InBytes.{big-behind, big-back, big-lt, big-again}
 use Rattle.octets.proofs.Bytes.{no-octets, one-more, both-octets, part-octets}
 use Rattle.packet.specs.Frame.{total, checksumOf}
 use Rattle.packet.proofs.Frames.{total-append}
-use Rattle.images.specs.Format.{HexRow, hexRow, recordOf, complement, closedRecord}
-use Rattle.images.specs.Import.{endIn, dataIn, recordIn}
+use Rattle.intel_hex.specs.Format.{HexRow, hexRow, Sayable, recordOf, withSum, complement, closedRecord}
+use Rattle.intel_hex.specs.Reading.{endIn, dataIn, recordIn}
 
 -- ---- sums
 -- one byte more makes it 0, and no other does
@@ -35,11 +35,7 @@ module _ (l : List ℕ) where
   closing c h e = let f = rw total-append at e in omega arith
 
 -- ---- records
--- a row that its count and its address can say
-abbrev pub Sayable : HexRow → Type 0
-Sayable r = Octets (r .bytes) × (length (r .bytes) < 256) × (r .start < 65536)
-
-pub record-octets : (r : HexRow) (c : ℕ) → Sayable r → c < 256 → Octets (recordOf r ++ (c ∷ []))
+pub record-octets : (r : HexRow) (c : ℕ) → Sayable r → c < 256 → Octets (withSum r c)
 unfolding bigBytes
 record-octets r c says h zero = says .1
 record-octets r c says h (suc zero) = mod-lt _ (lit< tt)
@@ -53,7 +49,7 @@ rowIn bytes = hexRow (bigAt 2 bytes 1) (partOf bytes (placeAt 4 (at bytes 0)))
 
 pub record Holds (bytes : List ℕ) (r : HexRow) : Type 0 where
   pub sum : ℕ
-  pub whole : bytes ≡ recordOf r ++ (sum ∷ [])
+  pub whole : bytes ≡ withSum r sum
   pub small : sum < 256
   pub says : Sayable r
 
@@ -77,15 +73,15 @@ holds (n ∷ a ∷ b ∷ t ∷ l) octets long type =
 
 -- and what is read of the bytes of a record
 module _ (r : HexRow) (c : ℕ) (says : Sayable r) where
-  row-read : rowIn (recordOf r ++ (c ∷ [])) ≡ r
+  row-read : rowIn (withSum r c) ≡ r
   unfolding partOf bigBytes
   row-read =
       let l : List ℕ = r .bytes ++ (c ∷ []) in
-      let start : bigAt 2 (recordOf r ++ (c ∷ [])) 1 ≡ r .start = big-behind (length (r .bytes) ∷ []) (bigBytes 2 (r .start) ++ (0 ∷ l)) 2 0 ∙ big-back 2 (r .start) (0 ∷ l) ∙ omega arith in
+      let start : bigAt 2 (withSum r c) 1 ≡ r .start = big-behind (length (r .bytes) ∷ []) (bigBytes 2 (r .start) ++ (0 ∷ l)) 2 0 ∙ big-back 2 (r .start) (0 ∷ l) ∙ omega arith in
       let bytes : take (length (r .bytes)) l ≡ r .bytes = take-at (r .bytes) (c ∷ []) (length (r .bytes)) refl in
       λ i. hexRow (start i) (bytes i)
 
-  pub record-read : recordIn (recordOf r ++ (c ∷ [])) ≡ ifEq (checksumOf (recordOf r ++ (c ∷ []))) 0 (accepted (some r)) (refused recordChecksum)
+  pub record-read : recordIn (withSum r c) ≡ ifEq (checksumOf (withSum r c)) 0 (accepted (some r)) (refused recordChecksum)
   unfolding recordIn bigBytes
   record-read =
       let long : length (r .bytes ++ (c ∷ [])) ≡ length (r .bytes) + 1 = length-append (r .bytes) (c ∷ []) in
@@ -108,7 +104,7 @@ row-of-record bytes r octets e =
         let z : _≡_ {A = ℕ} 0 1 = cc in omega arith
 
     go : Holds bytes r → checksumOf bytes ≡ 0 → (bytes ≡ closedRecord r) × Sayable r
-    go p f = (p .whole ∙ ap (λ (c : ℕ). recordOf r ++ (c ∷ [])) (closing (recordOf r) (p .sum) (p .small) (rw (p .whole) at f)), p .says)
+    go p f = (p .whole ∙ ap (withSum r) (closing (recordOf r) (p .sum) (p .small) (rw (p .whole) at f)), p .says)
 
 -- ---- the end record
 abbrev pub endBytes : List ℕ
@@ -146,22 +142,17 @@ end-of-record bytes e =
         let z : _≡_ {A = ℕ} 0 1 = cc in omega arith
 
 -- ---- what is refused
--- a data record but for its sum
-pub record Unequal (bytes : List ℕ) : Type 0 where
-  pub count : at bytes 0 + 5 ≡ length bytes
-  pub type : at bytes 3 ≡ 0
-  pub sum : checksumOf bytes ≡ 0 → ⊥
-
-pub record-fault : (bytes : List ℕ) (k : ℕ) → recordIn bytes ≡ refused k → (k ≡ malformed) ⊎ ((k ≡ recordChecksum) × Unequal bytes)
+-- with 17 a data record, whatever its sum
+pub record-fault : (bytes : List ℕ) (k : ℕ) → recordIn bytes ≡ refused k → (k ≡ malformed) ⊎ ((k ≡ recordChecksum) × (at bytes 0 + 5 ≡ length bytes) × (at bytes 3 ≡ 0))
 unfolding recordIn
 record-fault bytes k =
     either-lt P _ _ _ _ (λ h. bad)
     (λ h. either-eq P _ _ _ _ (λ count. either-eq P _ _ _ _ (λ t. end)
-    (λ t. either-eq P _ _ _ _ (λ type. either-eq P _ _ _ _ (λ s e. absurd (accepted-refused e)) (λ s e. inr (cc, record { count = count; type = type; sum = s })))
+    (λ t. either-eq P _ _ _ _ (λ type. either-eq P _ _ _ _ (λ s e. absurd (accepted-refused e)) (λ s e. inr (cc, count, type)))
     (λ n. bad))) (λ n. bad))
   where
     P : Outcome (Option HexRow) → Type 0
-    P o = o ≡ refused k → (k ≡ malformed) ⊎ ((k ≡ recordChecksum) × Unequal bytes)
+    P o = o ≡ refused k → (k ≡ malformed) ⊎ ((k ≡ recordChecksum) × (at bytes 0 + 5 ≡ length bytes) × (at bytes 3 ≡ 0))
 
     bad : P (refused malformed)
     bad e = inl (cc)

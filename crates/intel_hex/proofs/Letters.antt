@@ -14,7 +14,7 @@ use Rattle.octets.proofs.Choosing.{below, above, other, either-lt, lt-or-le, mi
 use Rattle.text.specs.Digits.{hexDigit, hexDigits, pairsOf, digitValue}
 use Rattle.text.specs.Read.{notDigits, pairsIn}
 use Rattle.text.proofs.Back.{hex-back}
-use Rattle.images.specs.Format.{capital, capitals}
+use Rattle.intel_hex.specs.Format.{capital, capitals}
 
 -- ---- one byte
 module _ (b : ℕ) where
