@@ -7,7 +7,7 @@ use native.Mathlib.Omega.{arith}
 use lib.ListN.{length, drop, replicate, length-replicate, length-take, length-drop}
 use Rattle.octets.specs.Refusals.{outside, wrongSizes}
 use Rattle.octets.specs.Outcome.{Outcome, accepted, refused}
-use Rattle.octets.specs.Choice.{pick}
+use Rattle.octets.specs.Choice.{pick, ifLt, ifEq}
 use Rattle.octets.proofs.Choosing.{either-lt, either-eq}
 use Rattle.processor.specs.Memory.{Memory, memory, Store, store, oversized}
 use Rattle.processor.specs.Puts.{Within, AllWithin}
@@ -73,23 +73,33 @@ new-sizes dsp meters m = (
   meters-length meters (replicate (length (m .settings)) 0) ∙ length-replicate (length (m .settings)) 0,
 )
 
+-- what is new depends on the sizes alone
+new-alike : (dsp : ℕ) (meters : List ℕ) (m : Memory) → newMemory dsp meters (blank (length (m .eeprom)) (length (m .settings))) ≡ newMemory dsp meters m
+new-alike dsp meters m = λ i. memory (store (newWrites dsp) (memory (replicate (length-replicate {A = ℕ} (length (m .eeprom)) 0xFF i) 0xFF) []) .eeprom) (withMeters meters (replicate (length-replicate {A = ℕ} (length (m .settings)) 0 i) 0))
+
+-- For any f that makes the new memory: written out, the one that does is too large to carry through the cases.
+module _ (f : Memory → Memory) (sizes : (m : Memory) → SameSizes (f m) m) (made : Device) (meters : List ℕ) (m : Memory) where
+  abbrev fresh : Memory
+  fresh = f (blank (length (m .eeprom)) (length (m .settings)))
+
+  abbrev madeBy : Outcome Device × Memory
+  madeBy =
+      ifEq (length (m .eeprom)) 65536
+      (ifLt 65536 (length (m .settings)) (refused wrongSizes, m)
+      (pick (anyBeyond (length (m .settings)) meters) (refused outside, m) (accepted made, f m)))
+      (refused wrongSizes, m)
+
+  made-right : fresh ≡ f m → Right m (onMade madeBy .0) (writesFor fresh) (madeBy .1)
+  made-right alike = either-eq P _ _ _ _ (λ h. either-lt P _ _ _ _ (λ g. (refl, tt)) (λ g. go (anyBeyond (length (m .settings)) meters))) (λ h. (refl, tt))
+    where
+      P : Outcome Device × Memory → Type 0
+      P left = Right m (onMade left .0) (writesFor fresh) (left .1)
+
+      go : (b : Bool) → P (pick b (refused outside, m) (accepted made, f m))
+      go true = (refl, tt)
+      go false = subst (λ (x : Memory). Right m (accepted tt) (writesFor x) (f m)) (sym alike) (whole-right m (f m) (sizes m))
+
 pub new-right : (made : Device) (meters : List ℕ) (m : Memory) → let left = onMade (newOf made meters m) in Right m (left .0) (writesFor (newMemory (made .«dsp_version») meters (blank (length (m .eeprom)) (length (m .settings))))) (left .1)
 new-right made meters m =
-    either-eq P _ _ _ _ (λ h. either-lt P _ _ _ _ (λ g. (refl, tt)) (λ g. go (anyBeyond (length (m .settings)) meters))) (λ h. (refl, tt))
-  where
-    dsp : ℕ
-    dsp = made .«dsp_version»
-
-    empty : Memory
-    empty = blank (length (m .eeprom)) (length (m .settings))
-
-    P : Outcome Device × Memory → Type 0
-    P left = Right m (onMade left .0) (writesFor (newMemory dsp meters empty)) (left .1)
-
-    -- what is new depends on the sizes alone
-    alike : newMemory dsp meters empty ≡ newMemory dsp meters m
-    alike = λ i. memory (store (newWrites dsp) (memory (replicate (length-replicate {A = ℕ} (length (m .eeprom)) 0xFF i) 0xFF) []) .eeprom) (withMeters meters (replicate (length-replicate {A = ℕ} (length (m .settings)) 0 i) 0))
-
-    go : (b : Bool) → P (pick b (refused outside, m) (accepted made, newMemory dsp meters m))
-    go true = (refl, tt)
-    go false = subst (λ (x : Memory). Right m (accepted tt) (writesFor x) (newMemory dsp meters m)) (sym alike) (whole-right m (newMemory dsp meters m) (new-sizes dsp meters m))
+    let dsp = made .«dsp_version» in
+    made-right (newMemory dsp meters) (new-sizes dsp meters) made meters m (new-alike dsp meters m)

@@ -23,9 +23,13 @@ pub record Twice (r : HexRow) (rows : List HexRow) : Type 0 where
 
 -- what is wrong with the line behind these rows, and its number
 pub data BadLine (e : ℕ) (rows : List HexRow) (line : List ℕ) : ℕ → Type 0 where
+  -- "16 malformed text, other record type"
   no-record : ((r : HexRow) (sum : ℕ) → Spells line r sum → ⊥) → (line ≡ endText → ⊥) → BadLine e rows line malformed
+  -- "17 wrong record checksum"
   wrong-sum : (r : HexRow) (sum : ℕ) → Spells line r sum → (line ≡ rowText r → ⊥) → BadLine e rows line recordChecksum
+  -- "7 row address plus count beyond E"
   beyond : (r : HexRow) → line ≡ rowText r → Sayable r → e < rowEnd r → BadLine e rows line outside
+  -- "18 byte named twice"
   twice : (r : HexRow) → line ≡ rowText r → Sayable r → rowEnd r ≤ e → Twice r rows → BadLine e rows line namedTwice
 
 -- ---- where it stands
@@ -39,10 +43,12 @@ abbrev pub Before : LineEnd → List ℕ → Type 0
 Before lf line = Without 10 line × ((front : List ℕ) → line ≡ front ++ (13 ∷ []) → ⊥)
 Before crlf line = Without 10 line
 
--- what stands behind the lines of these rows: a bad line; "no end record", where the last line is not one; "or text after it"
+-- what is wrong with what stands behind the lines of these rows, and its number
 pub data BadRest (e : ℕ) (rows : List HexRow) (rest : List ℕ) : ℕ → Type 0 where
   bad-line : (line : List ℕ) (end : LineEnd) (behind : List ℕ) {k : ℕ} → rest ≡ line ++ (ending end ++ behind) → Before end line → BadLine e rows (capitals line) k → BadRest e rows rest k
+  -- "no end record": the last line is none, and lacks its line end
   no-end : Without 10 rest → (capitals rest ≡ endText → ⊥) → BadRest e rows rest malformed
+  -- "or text after it"
   text-after : (line : List ℕ) (end : LineEnd) (b : ℕ) (behind : List ℕ) → rest ≡ line ++ (ending end ++ (b ∷ behind)) → capitals line ≡ endText → BadRest e rows rest malformed
 
 -- "the first bad row going forward": behind the lines of rows that fit
