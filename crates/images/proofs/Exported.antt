@@ -38,13 +38,13 @@ module _ (start : ℕ) (bytes : List ℕ) where
 
   -- its line, part by part
   pub line-parts : (h : List ℕ) (sum : ℕ) → h ≡ headOf (length bytes) start → sum ≡ complement ((checksumOf h + checksumOf bytes) % 256)
-      → ((((58 ∷ []) ++ pairsOf h) ++ pairsOf bytes) ++ pairsOf (sum ∷ [])) ++ (10 ∷ []) ≡ rowText (hexRow start bytes) ++ (10 ∷ [])
+      → ((58 ∷ []) ++ pairsOf h) ++ ((pairsOf bytes ++ pairsOf (sum ∷ [])) ++ (10 ∷ [])) ≡ rowText (hexRow start bytes) ++ (10 ∷ [])
   unfolding rowText
   line-parts h sum e f =
       let front : h ++ bytes ≡ recordOf (hexRow start bytes) = rw e record-parts in
       let last : sum ≡ complement (checksumOf (recordOf (hexRow start bytes))) = f ∙ rw e (ap complement sum-parts) in
       let pairs : (pairsOf h ++ pairsOf bytes) ++ pairsOf (sum ∷ []) ≡ pairsOf (closedRecord (hexRow start bytes)) = rw (← pairs-append h bytes, ← pairs-append (h ++ bytes) (sum ∷ []), front, last) in
-      ap (λ (l : List ℕ). 58 ∷ (l ++ (10 ∷ []))) pairs
+      ap (λ (l : List ℕ). 58 ∷ l) (simp append-assoc) ∙ ap (λ (l : List ℕ). 58 ∷ (l ++ (10 ∷ []))) pairs
 
 -- ---- the rows of an EEPROM, as they are put, one behind the other
 module _ (eeprom : List ℕ) where

@@ -6,6 +6,7 @@ ghost use lib.ListN.{length};
 ghost use Rattle.octets.specs.Outcome.{written};
 ghost use Rattle.octets.specs.Over.{over};
 ghost use Rattle.octets.specs.Number.{bigBytes};
+ghost use Rattle.text.specs.Digits.{pairsOf};
 ghost use Rattle.intel_hex.specs.Format.{hexRow, complement, rowText};
 ghost use Rattle.intel_hex.specs.Writing.{exportRow, exportRows};
 ghost use Rattle.images.specs.Export.{exportedInto};
@@ -68,10 +69,18 @@ fn put_record(start: u16, bytes: &[u8], out: &mut [u8])
 {
     let head = head_of(bytes.len() as u8, start);
     let sum = complement_of(packet::checksum(&head), packet::checksum(bytes));
-    let end = 9 + 2 * bytes.len();
     octets::put(b":", out);
     text::put_pairs(&head, &mut out[1..]);
-    text::put_pairs(bytes, &mut out[9..]);
+    put_summed(bytes, sum, &mut out[9..]);
+}
+
+// What stands behind a record's head: its data, its checksum and the line end.
+fn put_summed(bytes: &[u8], sum: u8, out: &mut [u8])
+    requires { ⌜ (length (now bytes) < 256) × (2 * length (now bytes) + 3 ≤ length (now out)) ⌝ }
+    ensures { λ _. ⌜ now (out .exit) ≡ over ((pairsOf (now (bytes .entry)) ++ pairsOf (sum ∷ [])) ++ (10 ∷ [])) (now (out .entry)) ⌝ }
+{
+    let end = 2 * bytes.len();
+    text::put_pairs(bytes, out);
     text::put_pairs(&[sum], &mut out[end..]);
     octets::put(b"\n", &mut out[end + 2..]);
 }
