@@ -8,7 +8,7 @@ import re
 TOP = os.path.dirname(os.path.dirname(os.path.dirname(os.path.abspath(__file__))))
 WRONG = os.path.join(TOP, "compare", "tools", "wrong")
 CRATES = os.path.join(TOP, "crates")
-FN = re.compile(r'^(\s*)(pub )?(?:extern "C" )?fn ([a-z_0-9]+)')
+FN = re.compile(r'^(\s*)(pub )?(?:pub\(crate\) )?(?:extern "C" )?fn ([a-z_0-9]+)')
 FAILS = "Refused"
 
 
@@ -114,6 +114,7 @@ def reached():
     """Crate and name of each function that a program can come to, by the names in the bodies: `Type::f(` and `module::f(` are that type's or
     module's, or any where it is another name for them, `.f(` any type's, and `f(` any that is none's."""
     everything = [function for crate in crates() for function in functions(crate)]
+    kit = {need for needs in crates().values() for need in needs} - set(crates())
     by_name = {}
     for function in everything:
         by_name.setdefault(function.short, []).append(function)
@@ -125,6 +126,8 @@ def reached():
         found.add((function.crate, function.name))
         for before, dot, name in CALL.findall(function.body):
             named = by_name.get(name, [])
+            if before in kit:
+                continue
             if before:
                 waiting += [other for other in named if before in (other.owner, other.module.split("::")[-1], other.crate)] or named
             else:
@@ -177,7 +180,7 @@ def changed(text, function, old, new):
     owner, _, name = function.rpartition("::")
     first = re.search(r"(?m)^impl " + owner + r" \{$", text).start() if owner else 0
     last = text.index("\n}\n", first) if owner else len(text)
-    starts = [m for m in re.finditer(r"(?m)^([ \t]*)(pub )?(extern \"C\" )?fn " + name + r"\b", text) if first <= m.start() < last]
+    starts = [m for m in re.finditer(r"(?m)^([ \t]*)(pub |pub\(crate\) )?(extern \"C\" )?fn " + name + r"\b", text) if first <= m.start() < last]
     if len(starts) != 1:
         return None
     start = starts[0]

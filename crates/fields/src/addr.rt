@@ -3,10 +3,12 @@ ghost use mathlib.Core.Path.{_≡_};
 ghost use Prim.Native.Nat.{_*_, _≤_};
 ghost use mathlib.Core.Bool.{true};
 ghost use Rattle.octets.specs.Outcome.{written};
-ghost use Rattle.fields.specs.Addr.{addrOf, widthIf, addrAt, readAddr, addrFrom, addrFromAny, bit, wrongLength, addrInto};
+ghost use Rattle.packet.specs.Summing.{SumOf};
+ghost use Rattle.fields.specs.Addr.{addrOf, widthIf, addrAt, readAddr, addrFrom, addrFromAny, bit, wrongLength, addrBytes, addrInto};
 use octets::Written;
 use octets::number;
 use octets::refusal;
+use packet::Summed;
 
 pub struct Addr {
     pub val: u32,
@@ -120,17 +122,28 @@ impl Addr {
     pub fn write(self, out: &mut [u8]) -> Written
         ensures { λ r. ⌜ (written r, now (out .exit)) ≡ addrInto self (now (out .entry)) ⌝ }
     {
+        self.put(out).wrote
+    }
+
+    // The same, added up as it is written.
+    pub(crate) fn put(self, out: &mut [u8]) -> Summed
+        ensures { λ r. ⌜ (written (r .wrote), now (out .exit)) ≡ addrInto self (now (out .entry)) ⌝ }
+        ensures { λ r. ⌜ SumOf (addrBytes self) r ⌝ }
+    {
         let len = self.len;
         let val = self.val;
         if len == 2 {
             let bytes = number::big_bytes16(((val % 0x8000) + top(self.extra_bit, 0x8000)) as u16);
-            return octets::put(&bytes, out);
+            return packet::copy(&bytes, out);
         }
         if len == 3 {
             let bytes = number::big_bytes24(val % 0x80_0000 + top(self.extra_bit, 0x80_0000));
-            return octets::put(&bytes, out);
+            return packet::copy(&bytes, out);
         }
-        Written::Refused(refusal::ADDRESS_LENGTH)
+        Summed {
+            wrote: Written::Refused(refusal::ADDRESS_LENGTH),
+            sum: 0,
+        }
     }
 }
 

@@ -8,6 +8,8 @@ ghost use lib.ListN.{length};
 ghost use Rattle.octets.specs.Outcome.{written};
 ghost use Rattle.octets.specs.Over.{over, into};
 ghost use Rattle.octets.specs.Place.{floatsAt, partOf, isOutside};
+ghost use Rattle.packet.specs.Frame.{checksumOf};
+ghost use Rattle.packet.specs.Summing.{SumOf};
 ghost use Rattle.fields.specs.Value.{valueBytes, valueOutside};
 ghost use Rattle.fields.specs.Row.{fieldBytes, packetOf, misaddressed, misplaced, anyOf, encodedOf, rowInto, rowFrameInto, fieldsOf, padded};
 ghost use Rattle.fields.specs.Inside.{Writable, AllWritable, encodedLength};
@@ -17,6 +19,7 @@ use octets::Place;
 use octets::Written;
 use octets::number;
 use octets::refusal;
+use packet::Summed;
 
 // A field of a packet. A payload and floats stand in lent bytes; a float takes four of them.
 pub enum Field {
@@ -173,46 +176,55 @@ fn settled(row: [Cell; 8], payload: &[u8]) -> Written
     Written::Bytes(n)
 }
 
-fn put_field(field: Field, payload: &[u8], out: &mut [u8]) -> Written
+fn put_field(field: Field, payload: &[u8], out: &mut [u8]) -> Summed
     requires { ⌜ Writable (now payload) field ⌝ }
-    ensures { λ r. ⌜ (written r, now (out .exit)) ≡ into (fieldBytes (now (payload .entry)) field) (now (out .entry)) ⌝ }
+    ensures { λ r. ⌜ (written (r .wrote), now (out .exit)) ≡ into (fieldBytes (now (payload .entry)) field) (now (out .entry)) ⌝ }
+    ensures { λ r. ⌜ SumOf (fieldBytes (now (payload .entry)) field) r ⌝ }
 {
     match field {
-        Field::Nothing => Written::Bytes(0),
-        Field::Byte(n) => octets::put(&[n], out),
-        Field::Word(n) => octets::put(&number::big_bytes16(n), out),
-        Field::Address(a) => a.write(out),
-        Field::Coded(value) => value.into_bytes(payload, out),
-        Field::Payload(place) => octets::put(octets::part(payload, place), out),
+        Field::Nothing => Summed {
+            wrote: Written::Bytes(0),
+            sum: 0,
+        },
+        Field::Byte(n) => packet::copy(&[n], out),
+        Field::Word(n) => packet::copy(&number::big_bytes16(n), out),
+        Field::Address(a) => a.put(out),
+        Field::Coded(value) => value.put(payload, out),
+        Field::Payload(place) => packet::copy(octets::part(payload, place), out),
         Field::Floats { start, count } => put_floats(payload, start, count, out),
     }
 }
 
-fn put_floats(payload: &[u8], start: usize, count: usize, out: &mut [u8]) -> Written
+fn put_floats(payload: &[u8], start: usize, count: usize, out: &mut [u8]) -> Summed
     requires { ⌜ isOutside (floatsAt start count) (length (now payload)) ≡ false ⌝ }
-    ensures { λ r. ⌜ (written r, now (out .exit)) ≡ into (partOf (now (payload .entry)) (floatsAt start count)) (now (out .entry)) ⌝ }
+    ensures { λ r. ⌜ (written (r .wrote), now (out .exit)) ≡ into (partOf (now (payload .entry)) (floatsAt start count)) (now (out .entry)) ⌝ }
+    ensures { λ r. ⌜ SumOf (partOf (now (payload .entry)) (floatsAt start count)) r ⌝ }
 {
     let len = count * 4;
-    octets::put(octets::part(payload, Place { start, len }), out)
+    packet::copy(octets::part(payload, Place { start, len }), out)
 }
 
-// Writes the row over the start of out, field by field.
-fn put_row(row: [Cell; 8], payload: &[u8], out: &mut [u8])
+// Writes the row over the start of out, field by field, and answers its sum.
+fn put_row(row: [Cell; 8], payload: &[u8], out: &mut [u8]) -> u8
     requires { ⌜ AllWritable (now payload) (fieldsOf row) ⌝ }
     requires { ⌜ length (packetOf (now payload) (fieldsOf row)) ≤ 254 ⌝ }
     requires { ⌜ length (packetOf (now payload) (fieldsOf row)) ≤ length (now out) ⌝ }
     ensures { λ _. ⌜ now (out .exit) ≡ over (packetOf (now (payload .entry)) (fieldsOf row)) (now (out .entry)) ⌝ }
+    ensures { λ r. ⌜ r ≡ checksumOf (packetOf (now (payload .entry)) (fieldsOf row)) ⌝ }
 {
     let mut at = 0;
+    let mut sum: u8 = 0;
     let mut i = 0;
     while i < 8 {
         let cell = row[i];
         let field = cell.field;
         let n = field_len(field, payload);
-        put_field(field, payload, &mut out[at..]);
+        let put = put_field(field, payload, &mut out[at..]);
+        sum = std::num::wrapping_add_u8(sum, put.sum);
         at += n;
         i += 1;
     }
+    sum
 }
 
 // Writes the packet of a row over the start of out.
@@ -231,8 +243,8 @@ pub fn write(row: [Cell; 8], payload: &[u8], out: &mut [u8]) -> Written
     }
 }
 
-// Writes the frame of a row's packet: the packet to out from its second byte onward, which is then
-// closed.
+// Writes the frame of a row's packet: the packet to out from its second byte onward, added up as it is
+// written, which is then closed.
 pub fn frame(row: [Cell; 8], payload: &[u8], out: &mut [u8]) -> Written
     ensures { λ r. ⌜ (written r, now (out .exit)) ≡ rowFrameInto (now (payload .entry)) (fieldsOf row) (now (out .entry)) ⌝ }
 {
@@ -241,8 +253,8 @@ pub fn frame(row: [Cell; 8], payload: &[u8], out: &mut [u8]) -> Written
             if out.len() < n + 2 {
                 return Written::Refused(refusal::NO_ROOM);
             }
-            put_row(row, payload, &mut out[1..]);
-            packet::close(n, out)
+            let sum = put_row(row, payload, &mut out[1..]);
+            packet::close_with(n, sum, out)
         }
         Written::Refused(k) => Written::Refused(k),
     }

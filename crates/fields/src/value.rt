@@ -4,13 +4,15 @@ ghost use lib.Ieee.{binary32, ofBits};
 ghost use Rattle.octets.specs.Over.{into};
 ghost use Rattle.fields.specs.declared.value.Value.the-variants.{Float, FixedPoint as FixedValue, Int, Unknown};
 ghost use Rattle.octets.specs.Outcome.{written};
-ghost use Rattle.fields.specs.Value.{valueAt, readValue, valueFrom, valueOutside, valueInto};
+ghost use Rattle.packet.specs.Summing.{SumOf};
+ghost use Rattle.fields.specs.Value.{valueAt, readValue, valueFrom, valueBytes, valueOutside, valueInto};
 use numbers::fixed_point::FixedPoint;
 use numbers::float;
 use octets::Place;
 use octets::Written;
 use octets::number;
 use octets::refusal;
+use packet::Summed;
 
 // The bytes of an unknown value stand at a place in lent bytes.
 pub enum Value {
@@ -106,6 +108,14 @@ impl Value {
     pub fn into_bytes(self, packet: &[u8], out: &mut [u8]) -> Written
         ensures { λ r. ⌜ (written r, now (out .exit)) ≡ valueInto self (now (packet .entry)) (now (out .entry)) ⌝ }
     {
+        self.put(packet, out).wrote
+    }
+
+    // The same, added up as they are written.
+    pub(crate) fn put(self, packet: &[u8], out: &mut [u8]) -> Summed
+        ensures { λ r. ⌜ (written (r .wrote), now (out .exit)) ≡ valueInto self (now (packet .entry)) (now (out .entry)) ⌝ }
+        ensures { λ r. ⌜ SumOf (valueBytes self (now (packet .entry))) r ⌝ }
+    {
         match self {
             Value::Float(x) => put4(number::little_bytes32(float::to_bits(x)), out),
             Value::FixedPoint(x) => put4(number::big_bytes32(x.to_u32()), out),
@@ -116,18 +126,23 @@ impl Value {
     }
 }
 
-fn put4(bytes: [u8; 4], out: &mut [u8]) -> Written
-    ensures { λ r. ⌜ (written r, now (out .exit)) ≡ into bytes (now (out .entry)) ⌝ }
+fn put4(bytes: [u8; 4], out: &mut [u8]) -> Summed
+    ensures { λ r. ⌜ (written (r .wrote), now (out .exit)) ≡ into bytes (now (out .entry)) ⌝ }
+    ensures { λ r. ⌜ SumOf bytes r ⌝ }
 {
-    octets::put(&bytes, out)
+    packet::copy(&bytes, out)
 }
 
 // Copies the bytes at a place of the packet.
-fn put_part(packet: &[u8], place: Place, out: &mut [u8]) -> Written
-    ensures { λ r. ⌜ (written r, now (out .exit)) ≡ valueInto (Unknown place) (now (packet .entry)) (now (out .entry)) ⌝ }
+fn put_part(packet: &[u8], place: Place, out: &mut [u8]) -> Summed
+    ensures { λ r. ⌜ (written (r .wrote), now (out .exit)) ≡ valueInto (Unknown place) (now (packet .entry)) (now (out .entry)) ⌝ }
+    ensures { λ r. ⌜ SumOf (valueBytes (Unknown place) (now (packet .entry))) r ⌝ }
 {
     if octets::is_outside(place, packet.len()) {
-        return Written::Refused(refusal::OUTSIDE);
+        return Summed {
+            wrote: Written::Refused(refusal::OUTSIDE),
+            sum: 0,
+        };
     }
-    octets::put(octets::part(packet, place), out)
+    packet::copy(octets::part(packet, place), out)
 }

@@ -1,4 +1,4 @@
--- What was settled tells that the row can be framed: its packet is written to the lent rest, and closed.
+-- What was settled tells that the row can be framed: its packet is written to the lent rest, added up on the way, and closed.
 use mathlib.Core.Path.{refl, _∙_}
 use native.Mathlib.Omega.{arith}
 use lib.ListN.{length-take, length-drop}
@@ -35,8 +35,8 @@ returns-2 c =
     let p = packetOf (a .payload .now) (fieldsOf (a .row)) in
     let l = a .out .now in
     let n = told .before .n .given .0 .0 in
-    let wrote = over-from l 1 p (omega (arith, r .count)) (row .put-row .ensures) in
-    rw (r .is) (close .close .ensures ∙ closed p l n (r .count) (omega (arith, r .short)) (omega arith) wrote)
+    let wrote = over-from l 1 p (omega (arith, r .count)) (row .put-row .ensures .0) in
+    rw (r .is) (close .close-with .ensures ∙ closed p l n _ (r .count) (row .put-row .ensures .1) (omega (arith, r .short)) (omega arith) wrote)
 
 returns-3 : tie.Need-returns-3
 returns-3 c = let k = c .before in rw (was-refused _ _ _ (rw (k .k .given .1) at (k .before .before .settled .ensures)))

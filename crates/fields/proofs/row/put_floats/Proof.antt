@@ -9,7 +9,7 @@ mul-len : tie.Need-mul-len
 mul-len c = omega (arith, was-inside _ _ (c .before .before .pre))
 
 returns : tie.Need-returns
-returns c = let put = c .before .before in rw (put .put .ensures, put .before .before .part .ensures)
+returns c = let put = c .before .before in rw (put .before .before .part .ensures) at (put .copy .ensures)
 
 pub put-floats-spec : {M : Type 1} → statement M
 put-floats-spec = tie.close (tie.spec mul-len (λ c κs. search needs) (λ c κs. search needs) (λ c. search needs) returns)

@@ -21,7 +21,7 @@ returns-2 : tie.Need-returns-2
 returns-2 c =
     let put = c .before .before in
     let r = ready (put .before .before .before) in
-    rw (r .is, put .put-row .ensures, r .count) (above _ _ _ _ _ (omega (arith, r .count)) refl)
+    rw (r .is, put .put-row .ensures .0, r .count) (above _ _ _ _ _ (omega (arith, r .count)) refl)
 
 returns-3 : tie.Need-returns-3
 returns-3 c = let k = c .before in rw (was-refused _ _ _ (rw (k .k .given .1) at (k .before .before .settled .ensures)))

@@ -1,51 +1,10 @@
--- Each case writes its four bytes, or a part of the packet.
+-- As they are put, without the sum.
 use borrow.Author.Needs.{needs}
 use Rattle.fields.proofs.value.Value.into_bytes.Statement.{statement}
 use Rattle.fields.proofs.value.Value.into_bytes.Tie as tie
 
 returns : tie.Need-returns
-returns c = let put = c .before .before in let bytes = put .before .before in rw (put .put4 .ensures, bytes .little-bytes32 .ensures, bytes .before .to-bits .ensures, bytes .before .before .before .self .given .1)
-
-returns-2 : tie.Need-returns-2
-returns-2 c = let put = c .before .before in let bytes = put .before .before in rw (put .put42 .ensures, bytes .big-bytes32 .ensures, bytes .before .to-u32 .ensures, bytes .before .before .before .self2 .given .1)
-
-returns-3 : tie.Need-returns-3
-returns-3 c = let put = c .before .before in let bytes = put .before .before in rw (put .put43 .ensures, bytes .little-bytes322 .ensures, bytes .before .before .self3 .given .1)
-
-returns-4 : tie.Need-returns-4
-returns-4 c = let put = c .before .before in let bytes = put .before .before in rw (put .put44 .ensures, bytes .big-bytes322 .ensures, bytes .before .before .self4 .given .1)
-
-returns-5 : tie.Need-returns-5
-returns-5 c = let put = c .before .before in rw (put .put-part .ensures, put .before .before .before .self5 .given .1)
+returns c = c .before .before .put .ensures .0
 
 pub into-bytes-spec : {M : Type 1} → statement M
-into-bytes-spec =
-    tie.close
-    (tie.spec
-    (λ c. search needs)
-    (λ c κs. search needs)
-    (λ c κs. search needs)
-    (λ c κs. search needs)
-    (λ c. search needs)
-    (λ c κs. search needs)
-    (λ c κs. search needs)
-    (λ c κs. search needs)
-    (λ c. search needs)
-    (λ c. search needs)
-    (λ c κs. search needs)
-    (λ c κs. search needs)
-    (λ c. search needs)
-    (λ c κs. search needs)
-    (λ c κs. search needs)
-    (λ c. search needs)
-    (λ c κs. search needs)
-    (λ c. search needs)
-    returns
-    (λ c. search needs)
-    returns-2
-    (λ c. search needs)
-    returns-3
-    (λ c. search needs)
-    returns-4
-    (λ c. search needs)
-    returns-5)
+into-bytes-spec = tie.close (tie.spec (λ c κs. search needs) (λ c. search needs) returns)
