@@ -1,7 +1,6 @@
 -- Laws of a save: what its packets are, how long its parts are, and that it is found where it was written.
-use Prim.Native.Nat.{ℕ, zero, suc, _+_, _-_, _*_, _/_, _%_, _^_, _≤_, min}
+use Prim.Native.Nat.{ℕ, zero, suc, _+_, _-_, _*_, _/_, _%_, _^_, _≤_, _<_, min}
 use mathlib.Core.Path.{_≡_, refl, sym, ap, _∙_}
-use mathlib.Core.Bool.{true}
 use mathlib.Core.List.{List, [], _∷_, _++_, append-assoc, append-nil}
 use native.Mathlib.Numerals.{add-one}
 use native.Mathlib.Omega.{arith}
@@ -9,19 +8,14 @@ use lib.ListN.{length, take, drop, length-append, length-take, length-drop}
 use lib.Seq.{take-all, take-at}
 use Rattle.octets.specs.Number.{at, bigBytes, littleBytes}
 use Rattle.octets.specs.Place.{placeAt, partOf}
-use Rattle.octets.specs.Choice.{ifLt, ifEq}
-use Rattle.octets.specs.Outcome.{Outcome, accepted}
+use Rattle.octets.specs.Outcome.{Outcome}
 use Rattle.octets.specs.Over.{over, into}
-use Rattle.octets.proofs.Choosing.{above}
 use Rattle.octets.proofs.InBytes.{length-big, length-little}
 use Rattle.octets.proofs.Overlay.{put-over, put-rest, over-rest, over-next}
-use Rattle.octets.proofs.Parts.{part-short, is-inside}
+use Rattle.octets.proofs.Parts.{part-short}
 use Rattle.packet.proofs.Frames.{length-frame}
-use Rattle.fields.specs.Addr.{addrOf, addrBytes}
-use Rattle.fields.specs.Row.{packetOf, anyOf, encodedOf}
-use Rattle.fields.specs.declared.value.Value.the-variants.{Unknown}
-use Rattle.commands.specs.Encode.{commandRow}
-use Rattle.commands.specs.declared.Commands.the-variants.{WriteMemory, Write}
+use Rattle.fields.specs.Addr.{addrBytes}
+use Rattle.fields.specs.Row.{packetOf}
 use Rattle.processor.specs.Memory.{Memory}
 use Rattle.saves.specs.Save.{saveField, shapeField, frameField, blockAt, memoryPacket, wordPacket, rising, endField, blocks, fieldsFor, saveOf, room}
 
@@ -39,18 +33,18 @@ module _ (eeprom : List ℕ) (k : ℕ) where
   pub block-bytes : partOf eeprom (blockAt (length eeprom) k) ≡ take 32 (drop (32 * k) eeprom)
   block-bytes = part-short eeprom (placeAt (32 * k) (length eeprom - 32 * k)) 32 ∙ ap (take 32) (part-left eeprom (32 * k))
 
-  pub memory-packet : memoryPacket eeprom k ≡ 0x04 ∷ (bigBytes 2 (32 * k) ++ take 32 (drop (32 * k) eeprom))
+  pub length-block : length (partOf eeprom (blockAt (length eeprom) k)) ≡ min 32 (length eeprom - 32 * k)
+  length-block = rw (block-bytes, length-take, length-drop)
+
+  pub memory-bytes : memoryPacket eeprom k ≡ 0x04 ∷ (bigBytes 2 (32 * k) ++ partOf eeprom (blockAt (length eeprom) k))
   unfolding memoryPacket packetOf
-  memory-packet = rw (append-nil, block-bytes)
+  memory-bytes = rw append-nil
+
+  pub memory-packet : memoryPacket eeprom k ≡ 0x04 ∷ (bigBytes 2 (32 * k) ++ take 32 (drop (32 * k) eeprom))
+  memory-packet = rw (memory-bytes, block-bytes)
 
   pub length-memory-packet : length (memoryPacket eeprom k) ≡ 3 + min 32 (length eeprom - 32 * k)
   length-memory-packet = rw (memory-packet, length-append, length-big, length-take, length-drop) (omega arith)
-
-  pub memory-accepted : 32 * k ≤ length eeprom → encodedOf eeprom (commandRow (WriteMemory (32 * k) (blockAt (length eeprom) k)) []) ≡ accepted (memoryPacket eeprom k)
-  unfolding encodedOf anyOf memoryPacket
-  memory-accepted h =
-      let e : ℕ = length eeprom in
-      rw (← is-inside (blockAt e k) e (omega arith)) (sym (above _ _ _ _ _ (omega (arith, length-memory-packet)) refl))
 
 module _ (settings : List ℕ) (k : ℕ) where
   pub word-packet : wordPacket settings k ≡ 0x13 ∷ (bigBytes 3 (k % 2 ^ 23 + 2 ^ 23) ++ littleBytes 4 (at settings k))
@@ -60,11 +54,15 @@ module _ (settings : List ℕ) (k : ℕ) where
   pub length-word-packet : length (wordPacket settings k) ≡ 8
   length-word-packet = rw (word-packet, length-append, length-big, length-little)
 
-  pub word-accepted : encodedOf (littleBytes 4 (at settings k)) (commandRow (Write (addrOf k 3 true) (Unknown (placeAt 0 4))) []) ≡ accepted (wordPacket settings k)
-  unfolding encodedOf anyOf ifEq wordPacket
-  word-accepted =
-      let b : List ℕ = littleBytes 4 (at settings k) in
-      rw (← is-inside (placeAt 0 4) (length b) (omega (arith, length-little 4 (at settings k)))) (sym (above _ _ _ _ _ (omega (arith, length-word-packet)) refl))
+  -- an address below 65,536 takes two bytes behind the one with the extra bit
+  pub word-bytes : k < 65536 → wordPacket settings k ≡ 0x13 ∷ 0x80 ∷ (bigBytes 2 k ++ littleBytes 4 (at settings k))
+  unfolding bigBytes
+  word-bytes h =
+      let n : ℕ = k % 2 ^ 23 + 2 ^ 23 in
+      let first : n / 256 ^ 2 % 256 ≡ 0x80 = omega arith in
+      let second : n / 256 ^ 1 % 256 ≡ k / 256 ^ 1 % 256 = omega arith in
+      let third : n / 256 ^ 0 % 256 ≡ k / 256 ^ 0 % 256 = omega arith in
+      word-packet ∙ rw (first, second, third)
 
 -- ---- how long its parts are
 pub length-field : (tag : ℕ) (content : List ℕ) → length (saveField tag content) ≡ 3 + length content

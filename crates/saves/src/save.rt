@@ -1,20 +1,13 @@
 // Writing a save.
 ghost use mathlib.Core.Path.{_≡_};
-ghost use mathlib.Core.List.{_∷_};
+ghost use mathlib.Core.List.{_∷_, _++_};
 ghost use Prim.Native.Nat.{_+_, _-_, _*_, _≤_, _<_, min};
 ghost use lib.ListN.{length};
-ghost use Rattle.octets.specs.Number.{bigBytes};
-ghost use Rattle.octets.specs.Outcome.{accepted, written};
+ghost use Rattle.octets.specs.Number.{bigBytes, littleBytes};
+ghost use Rattle.octets.specs.Outcome.{written};
 ghost use Rattle.octets.specs.Over.{over, into};
-ghost use Rattle.fields.specs.Row.{packetOf, encodedOf};
-ghost use Rattle.commands.specs.Encode.{commandRow};
-ghost use Rattle.commands.specs.Decode.{noValues};
 ghost use Rattle.processor.specs.Memory.{memory};
 ghost use Rattle.saves.specs.Save.{savedInto, saveOf, shapeField, endField, frameField, memoryPacket, wordPacket, rising};
-use commands::Commands;
-use commands::decode::no_values;
-use fields::addr::Addr;
-use fields::value::Value;
 use octets::Place;
 use octets::Written;
 use octets::number;
@@ -76,15 +69,13 @@ fn put_end(frames: u32, out: &mut [u8])
     octets::put(&number::big_bytes32(frames), &mut out[stream::HEAD..]);
 }
 
-// A field with a command's frame, which has len bytes.
-fn put_frame(len: u16, command: Commands, payload: &[u8], out: &mut [u8])
-    requires { ⌜ encodedOf (now payload) (commandRow command noValues) ≡ accepted (packetOf (now payload) (commandRow command noValues)) ⌝ }
-    requires { ⌜ len ≡ length (packetOf (now payload) (commandRow command noValues)) + 2 ⌝ }
-    requires { ⌜ len + 3 ≤ length (now out) ⌝ }
-    ensures { λ _. ⌜ now (out .exit) ≡ over (frameField (packetOf (now (payload .entry)) (commandRow command noValues))) (now (out .entry)) ⌝ }
+// A field with a packet's frame.
+fn put_frame(packet: &[u8], out: &mut [u8])
+    requires { ⌜ (length (now packet) ≤ 254) × (length (now packet) + 5 ≤ length (now out)) ⌝ }
+    ensures { λ _. ⌜ now (out .exit) ≡ over (frameField (now (packet .entry))) (now (out .entry)) ⌝ }
 {
-    octets::put(&head(stream::FRAME, len), out);
-    command.to_frame(no_values(), payload, &mut out[stream::HEAD..]);
+    octets::put(&head(stream::FRAME, (packet.len() + 2) as u16), out);
+    packet::frame(packet, &mut out[stream::HEAD..]);
 }
 
 // The k-th block of the EEPROM.
@@ -95,11 +86,23 @@ fn put_block(k: usize, eeprom: &[u8], out: &mut [u8])
 {
     let start = BLOCK * k;
     let len = at_most(BLOCK, eeprom.len() - start);
-    let command = Commands::WriteMemory {
-        addr: start as u16,
-        data: Place { start, len },
-    };
-    put_frame((len + 5) as u16, command, eeprom, out);
+    let mut packet = [0; 35];
+    put_memory(
+        start as u16,
+        octets::part(eeprom, Place { start, len }),
+        &mut packet,
+    );
+    put_frame(&packet[0..len + 3], out);
+}
+
+// The packet of a WriteMemory.
+fn put_memory(addr: u16, block: &[u8], out: &mut [u8])
+    requires { ⌜ length (now block) + 3 ≤ length (now out) ⌝ }
+    ensures { λ _. ⌜ now (out .exit) ≡ over (0x04 ∷ (bigBytes 2 addr ++ now (block .entry))) (now (out .entry)) ⌝ }
+{
+    let place = number::big_bytes16(addr);
+    octets::put(&[0x04, place[0], place[1]], out);
+    octets::put(block, &mut out[3..]);
 }
 
 fn at_most(most: usize, n: usize) -> usize
@@ -129,11 +132,25 @@ fn put_setting(k: usize, settings: &[u32], out: &mut [u8])
     requires { ⌜ (k < length (now settings)) × (length (now settings) ≤ 65536) × (13 ≤ length (now out)) ⌝ }
     ensures { λ _. ⌜ now (out .exit) ≡ over (frameField (wordPacket (now (settings .entry)) k)) (now (out .entry)) ⌝ }
 {
-    let command = Commands::Write {
-        addr: Addr::new(k as u16, 3),
-        value: Value::Unknown(Place { start: 0, len: 4 }),
-    };
-    put_frame(10, command, &number::little_bytes32(settings[k]), out);
+    put_frame(&word_packet(k as u16, settings[k]), out);
+}
+
+// The packet of a Write of a word, to an address of three bytes with the extra bit set.
+fn word_packet(addr: u16, word: u32) -> [u8; 8]
+    ensures { λ r. ⌜ r ≡ 0x13 ∷ 0x80 ∷ (bigBytes 2 addr ++ littleBytes 4 word) ⌝ }
+{
+    let place = number::big_bytes16(addr);
+    let value = number::little_bytes32(word);
+    [
+        0x13,
+        0x80,
+        place[0],
+        place[1],
+        value[0],
+        value[1],
+        value[2],
+        value[3],
+    ]
 }
 
 fn put_settings(settings: &[u32], out: &mut [u8])
