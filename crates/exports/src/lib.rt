@@ -14,7 +14,7 @@ ghost use Rattle.commands.specs.declared.Commands.the-variants.{Unknown};
 ghost use Rattle.processor.specs.Memory.{memory};
 ghost use Rattle.saves.specs.Save.{savedInto};
 ghost use Rattle.saves.specs.Replay.{replayOf};
-ghost use Rattle.exports.specs.Answer.{numberOf, inNumber};
+ghost use Rattle.exports.specs.Answer.{inNumber, writtenNumber, outNumber};
 use commands::Commands;
 use commands::decode::no_values;
 use numbers::fixed_point::FixedPoint;
@@ -42,7 +42,7 @@ pub extern "C" fn wovenpike_to_f32(code: u32) -> u32
 }
 
 fn number_of(answer: Written) -> u8
-    ensures { λ r. ⌜ r ≡ numberOf (written answer) ⌝ }
+    ensures { λ r. ⌜ r ≡ writtenNumber (written answer) ⌝ }
 {
     match answer {
         Written::Bytes(_) => 0,
@@ -53,7 +53,7 @@ fn number_of(answer: Written) -> u8
 // Writes the frame of a packet, two bytes longer.
 #[no_mangle]
 pub extern "C" fn wovenpike_frame(packet: &[u8], out: &mut [u8]) -> u8
-    ensures { λ r. ⌜ (r, now (out .exit)) ≡ inNumber (frameInto (now (packet .entry)) (now (out .entry))) ⌝ }
+    ensures { λ r. ⌜ (r, now (out .exit)) ≡ outNumber (frameInto (now (packet .entry)) (now (out .entry))) ⌝ }
 {
     number_of(packet::frame(packet, out))
 }
@@ -61,7 +61,7 @@ pub extern "C" fn wovenpike_frame(packet: &[u8], out: &mut [u8]) -> u8
 // Writes the frame of a command that has this byte and, behind it, this payload.
 #[no_mangle]
 pub extern "C" fn wovenpike_command(id: u8, payload: &[u8], out: &mut [u8]) -> u8
-    ensures { λ r. ⌜ (r, now (out .exit)) ≡ inNumber (rowFrameInto (now (payload .entry)) (commandRow (Unknown id (placeAt 0 (length (now (payload .entry))))) noValues) (now (out .entry))) ⌝ }
+    ensures { λ r. ⌜ (r, now (out .exit)) ≡ outNumber (rowFrameInto (now (payload .entry)) (commandRow (Unknown id (placeAt 0 (length (now (payload .entry))))) noValues) (now (out .entry))) ⌝ }
 {
     let command = Commands::Unknown {
         cmd_id: id,
@@ -76,7 +76,7 @@ pub extern "C" fn wovenpike_command(id: u8, payload: &[u8], out: &mut [u8]) -> u
 // Writes a save of both memories: 18 + E + 8 ceil(E/32) + 13 S bytes.
 #[no_mangle]
 pub extern "C" fn wovenpike_save(eeprom: &[u8], settings: &[u32], out: &mut [u8]) -> u8
-    ensures { λ r. ⌜ (r, now (out .exit)) ≡ inNumber (savedInto (memory (now (eeprom .entry)) (now (settings .entry))) (now (out .entry))) ⌝ }
+    ensures { λ r. ⌜ (r, now (out .exit)) ≡ outNumber (savedInto (memory (now (eeprom .entry)) (now (settings .entry))) (now (out .entry))) ⌝ }
 {
     number_of(save(eeprom, settings, out))
 }
