@@ -5,14 +5,14 @@ use mathlib.Core.List.{[], _∷_}
 use native.Mathlib.Omega.{arith}
 use lib.ListN.{length, take, drop, length-take, length-drop}
 use borrow.Author.Needs.{needs}
-use Rattle.octets.proofs.Choosing.{below, above, tests}
+use Rattle.octets.proofs.Choosing.{below, above}
 use Rattle.octets.proofs.Overlay.{put-over, put-rest}
 use Rattle.packet.proofs.Frames.{headed-over}
 use Rattle.packet.proofs.close_with.Statement.{statement}
 use Rattle.packet.proofs.close_with.Tie as tie
 
 returns : tie.Need-returns
-returns c = search tests
+returns c = below _ _ _ _ _ (omega arith) refl
 
 returns-2 : tie.Need-returns-2
 returns-2 c = above _ _ _ _ _ (omega arith) (below _ _ _ _ _ (omega arith) refl)
