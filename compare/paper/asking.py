@@ -1,4 +1,4 @@
-"""Asks the program bench, and holds its answers to those that the papers give (reader.py, hexes.py, locks.py); runs the others."""
+"""Asks the program bench, and holds its answers to those that the papers give (reader.py, hexes.py); runs the others."""
 import os
 import subprocess
 import sys
@@ -38,15 +38,6 @@ class Bench:
         e, s = (max(0, len(memory) - SHOWN) for memory in (self.eeprom, self.settings))
         self.ask(f"peek {e} {SHOWN}", hexed(bytes(self.eeprom[e:])))
         self.ask(f"peek_words {s} {SHOWN}", " ".join(f"{w:08X}" for w in self.settings[s:]) or "-")
-
-    def digest(self):
-        """Both memories as numbers."""
-        sums = []
-        for memory in (self.eeprom, self.settings):
-            sums.append(0)
-            for one in memory:
-                sums[-1] = (sums[-1] * 16777619 + one) % 2 ** 32
-        self.ask("digest", f"{len(self.eeprom)} {sums[0]:08X} {len(self.settings)} {sums[1]:08X}")
 
     def replay(self, stream):
         try:

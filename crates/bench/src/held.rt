@@ -1,11 +1,10 @@
 // What the bench holds between requests, as numbers: the device as its making answers it, how much of
-// each memory is lent, how many bytes of a save or a text are kept, the device's lock, the tally, and
-// how many requests there were.
-use bench_device::{LOCK, device_of, of_device};
+// each memory is lent, how many bytes of a save or a text are kept, the tally, and how many requests
+// there were.
+use bench_device::device_of;
 use bench_words::*;
 use images::export::export;
 use octets::Written;
-use processor::lock;
 use programs::lent::front;
 use saves::save::save;
 use tally::Tally;
@@ -17,11 +16,11 @@ pub const SETTINGS: usize = 7;
 
 pub const KEPT: usize = 8;
 
-const ACCEPTED: usize = 10;
+const ACCEPTED: usize = 9;
 
-const REFUSED: usize = 11;
+const REFUSED: usize = 10;
 
-const REQUESTS: usize = 12;
+const REQUESTS: usize = 11;
 
 // An answer, and what is held after it.
 #[derive(Drop)]
@@ -36,7 +35,7 @@ pub fn same(answer: Answer, held: Answer) -> Asked {
 
 // A bare device on no memory.
 pub fn first() -> Answer {
-    of_device(device_of(with(of(0, 0, 1, 13), 1, 0, 0)))
+    with(of(0, 0, 1, 13), 1, 0, 0)
 }
 
 // With one request more.
@@ -56,14 +55,6 @@ pub fn ask(verb: usize, n: Numbers, held: Answer) -> Asked {
         1005 => same(of(held[ACCEPTED], held[REFUSED], 0, 0), held),
         1006 => same(number(0), tallied(held, Tally::zeroed())),
         1025 => same(held, held),
-        1033 => same(
-            number(0),
-            holding(of_device(lock::open(device_of(held))), held),
-        ),
-        1034 => same(
-            number(0),
-            holding(of_device(lock::shut(device_of(held))), held),
-        ),
         _ => same(number(held[REQUESTS]), held),
     }
 }
@@ -85,18 +76,13 @@ pub fn made(verb: usize, answer: Answer, held: Answer) -> Asked {
     if 1003 < verb || answer[FORM] != 0 {
         return same(answer, held);
     }
-    same(answer, holding(answer, held))
-}
-
-// With the device that these numbers show.
-fn holding(device: Answer, mut held: Answer) -> Answer {
+    let mut next = held;
     let mut i = 0;
     while i < EEPROM {
-        held[i] = device[i];
+        next[i] = answer[i];
         i += 1;
     }
-    held[LOCK] = device[LOCK];
-    held
+    same(answer, next)
 }
 
 pub fn send(

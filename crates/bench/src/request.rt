@@ -107,7 +107,7 @@ fn ask(
         1018 => keep(n.a, held, &eeprom[..], &settings[..], kept),
         1031 => keep_hex(n.a, held, &eeprom[..], kept),
         1027..=1028 => files::ask(verb, head(bytes, n.a), held, kept),
-        1001 | 1005 | 1006 | 1025 | 1026 | 1033 | 1034 => held::ask(verb, n, held),
+        1001 | 1005 | 1006 | 1025 | 1026 => held::ask(verb, n, held),
         _ => {
             let saved = head(&kept[..], held[KEPT]);
             let answer = bench_device::ask(verb, n, bytes, saved, out, held, eeprom, settings);

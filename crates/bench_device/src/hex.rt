@@ -4,46 +4,33 @@ use images::export::export;
 use images::import::import;
 use images::store::store_image;
 use octets::Done;
-use processor::Device;
 use programs::lent::front;
 
 // As much as can be lent.
 const LARGEST_LENT: usize = 65537;
 
-pub fn ask(
-    verb: usize,
-    device: Device,
-    given: &[u8],
-    kept: &[u8],
-    eeprom: &mut [u8],
-    out: &mut [u8],
-) -> Answer {
+pub fn ask(verb: usize, given: &[u8], kept: &[u8], eeprom: &mut [u8], out: &mut [u8]) -> Answer {
     match verb {
         1029 => written(export(&eeprom[..], out)),
-        1030 => done(store_image(device, given, eeprom)),
-        _ => done(restore(device, kept, eeprom)),
+        1030 => done(store_image(given, eeprom)),
+        _ => done(restore(kept, eeprom)),
     }
 }
 
 // The text is read into an image beside the EEPROM, which is then stored.
-fn restore(device: Device, hex: &[u8], eeprom: &mut [u8]) -> Done {
+fn restore(hex: &[u8], eeprom: &mut [u8]) -> Done {
     let mut image = [0u8; LARGEST_LENT];
-    restore_by(device, hex, eeprom, &mut image)
+    restore_by(hex, eeprom, &mut image)
 }
 
-fn restore_by(
-    device: Device,
-    hex: &[u8],
-    eeprom: &mut [u8],
-    image: &mut [u8; LARGEST_LENT],
-) -> Done {
-    restore_from(device, hex, eeprom, image)
+fn restore_by(hex: &[u8], eeprom: &mut [u8], image: &mut [u8; LARGEST_LENT]) -> Done {
+    restore_from(hex, eeprom, image)
 }
 
-fn restore_from(device: Device, hex: &[u8], eeprom: &mut [u8], image: &mut [u8]) -> Done {
+fn restore_from(hex: &[u8], eeprom: &mut [u8], image: &mut [u8]) -> Done {
     let lent = front(image, eeprom.len());
     match import(hex, lent) {
-        Done::Done => store_image(device, &lent[..], eeprom),
+        Done::Done => store_image(&lent[..], eeprom),
         Done::Refused(k) => Done::Refused(k),
     }
 }

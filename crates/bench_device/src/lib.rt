@@ -8,7 +8,7 @@ use bench_records::records::*;
 use bench_words::*;
 use commands::Commands;
 use device::execute::*;
-pub use make::{LOCK, device_of, of_device};
+pub use make::device_of;
 use octets::Done;
 use processor::Device;
 use processor::eeprom::*;
@@ -36,18 +36,9 @@ pub fn ask(
         1007 => executed(device_of(held), command_of(n), given, eeprom, settings, out),
         1008 => written(execute_into(device_of(held), command_of(n), given, eeprom, settings, out)),
         1009..=1011 => look::ask(verb, n, &eeprom[..], &settings[..], out),
-        1012..=1016 => done(write(verb, n, device_of(held), eeprom)),
-        1029..=1032 => hex::ask(verb, device_of(held), given, saved, eeprom, out),
-        _ => with_save(
-            verb,
-            n,
-            device_of(held),
-            given,
-            saved,
-            out,
-            eeprom,
-            settings,
-        ),
+        1012..=1016 => done(write(verb, n, eeprom)),
+        1029..=1032 => hex::ask(verb, given, saved, eeprom, out),
+        _ => with_save(verb, n, given, saved, out, eeprom, settings),
     }
 }
 
@@ -55,7 +46,6 @@ pub fn ask(
 fn with_save(
     verb: usize,
     n: Numbers,
-    device: Device,
     given: &[u8],
     saved: &[u8],
     out: &mut [u8],
@@ -65,21 +55,21 @@ fn with_save(
     match verb {
         1017 => written(save(&eeprom[..], &settings[..], out)),
         1019 => look::peek(octets::part(saved, place(n.a, n.b)), out),
-        1020 => done(replay(device, eeprom, settings, saved)),
-        1021 => done(replay(device, eeprom, settings, given)),
+        1020 => done(replay(eeprom, settings, saved)),
+        1021 => done(replay(eeprom, settings, given)),
         1022 => judged(given),
         1023 => written(listed::list(given, out)),
         _ => written(listed::list(saved, out)),
     }
 }
 
-fn write(verb: usize, n: Numbers, device: Device, eeprom: &mut [u8]) -> Done {
+fn write(verb: usize, n: Numbers, eeprom: &mut [u8]) -> Done {
     match verb {
-        1012 => write_eeprom_u8(device, half(n.a), byte(n.b), eeprom),
-        1013 => write_eeprom_u16(device, half(n.a), half(n.b), eeprom),
-        1014 => write_eeprom_u32(device, half(n.a), n.b, eeprom),
-        1015 => set_serial(device, n.a, eeprom),
-        _ => set_timestamp(device, n.a, eeprom),
+        1012 => write_eeprom_u8(half(n.a), byte(n.b), eeprom),
+        1013 => write_eeprom_u16(half(n.a), half(n.b), eeprom),
+        1014 => write_eeprom_u32(half(n.a), n.b, eeprom),
+        1015 => set_serial(n.a, eeprom),
+        _ => set_timestamp(n.a, eeprom),
     }
 }
 

@@ -7,13 +7,6 @@ use octets::number::big16;
 use processor::create::Made;
 use processor::{Device, create};
 
-// Where the numbers of a device have its lock, and the numbers of the names there.
-pub const LOCK: usize = 9;
-
-const OPEN: u32 = 1;
-
-const SHUT: u32 = 2;
-
 // The most meters that a request names.
 const METERS: usize = 512;
 
@@ -54,20 +47,12 @@ fn made(made: Made) -> Answer {
     }
 }
 
-pub fn of_device(device: Device) -> Answer {
+fn of_device(device: Device) -> Answer {
     let of_kind = device.kind;
     let major = device.fw_major as u32;
     let minor = device.fw_minor as u32;
     let n = of(device.hw_id as u32, device.dsp_version as u32, major, minor);
-    locked(
-        with(n, kind(of_kind), device.fir_max_taps as u32, 0),
-        device.shut,
-    )
-}
-
-fn locked(mut n: Answer, shut: bool) -> Answer {
-    n[LOCK] = if shut { SHUT } else { OPEN };
-    n
+    with(n, kind(of_kind), device.fir_max_taps as u32, 0)
 }
 
 pub fn device_of(n: Answer) -> Device {
@@ -79,6 +64,5 @@ pub fn device_of(n: Answer) -> Device {
         fw_minor: byte(n[3]),
         kind,
         fir_max_taps: half(n[5]),
-        shut: n[LOCK] == SHUT,
     }
 }

@@ -22,7 +22,7 @@ use Rattle.saves.specs.Save.{save_field, shape_field, frame_field, memory_packet
 use Rattle.streams.specs.Stream.{content_of, behind, tag_of, stream_up_to, stream_of, end_of, shape_of}
 use Rattle.streams.specs.Means.{packet_means, frame_means}
 use Rattle.streams.specs.Judge.{fields_mean, judged_of, checked_for}
-use Rattle.saves.specs.Replay.{replay_open}
+use Rattle.saves.specs.Replay.{replay_of}
 use Rattle.text.specs.Digits.{leading, decimal, hex_digits}
 use Rattle.listed.specs.Listing.{pair_line, setting_line, end_line, text_for}
 use Rattle.bench_list.specs.List.{BenchList, ReadsPastEnd}
@@ -36,7 +36,7 @@ unfolding if_lt part_of
 past_end_lem d m payload out e s = rw (sized m e s, e)
 
 pub bench-list : BenchList
-unfolding if_lt if_eq big_at little_at big_bytes little_bytes over over_at part_of is_outside total frame_of magnitude round_to pattern_of cut_sum encoded code_of around_zero bits_of_code gain_byte addr_at addr_bytes packet_of command_by command_of response_of response_kind_of save_field shape_field frame_field memory_packet word_packet rising end_field blocks fields_for save_of content_of behind tag_of stream_up_to stream_of end_of shape_of packet_means frame_means fields_mean judged_of checked_for replay_open leading decimal hex_digits pair_line setting_line end_line text_for
+unfolding if_lt if_eq big_at little_at big_bytes little_bytes over over_at part_of is_outside total frame_of magnitude round_to pattern_of cut_sum encoded code_of around_zero bits_of_code gain_byte addr_at addr_bytes packet_of command_by command_of response_of response_kind_of save_field shape_field frame_field memory_packet word_packet rising end_field blocks fields_for save_of content_of behind tag_of stream_up_to stream_of end_of shape_of packet_means frame_means fields_mean judged_of checked_for replay_of leading decimal hex_digits pair_line setting_line end_line text_for
 bench-list =
     record {
       frame-empty = refl;
@@ -56,5 +56,5 @@ bench-list =
       response-02 = refl;
       save-worked = refl;
       listing-worked = λ out. refl;
-      replay-worked = λ d a b c. refl;
+      replay-worked = λ a b c. refl;
     }

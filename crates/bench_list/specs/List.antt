@@ -1,5 +1,5 @@
 -- "Bench list, proved together": each row is the paper's own, in its order.
-use Rattle.std.specs.Prelude.{ℕ, ◌≤◌, ◌≡◌, true, false, List, [], ◌∷◌, length}
+use Rattle.std.specs.Prelude.{ℕ, ◌≤◌, ◌≡◌, true, List, [], ◌∷◌, length}
 use Rattle.octets.specs.Outcome.{accepted, refused}
 use Rattle.octets.specs.Over.{over, into}
 use Rattle.octets.specs.Place.{place_at}
@@ -14,7 +14,6 @@ use Rattle.responses.specs.Decode.{response_of}
 use Rattle.responses.specs.declared.Responses.TheVariants.{MemoryData}
 use Rattle.processor.specs.Memory.{Memory, memory}
 use Rattle.device.specs.Execute.{executed_record}
-use Rattle.processor.specs.Lock.{with_lock}
 use Rattle.processor.specs.declared.Device.{Device}
 use Rattle.saves.specs.Save.{save_of}
 use Rattle.saves.specs.Replay.{replay_of}
@@ -63,4 +62,4 @@ pub record BenchList : Type 0 where
   pub response-02 : response_of (0x02 ∷ []) ≡ refused 3
   pub save-worked : save_of worked_memory ≡ worked_save
   pub listing-worked : (out : List ℕ) → listed_into worked_save out ≡ into worked_text out
-  pub replay-worked : (d : Device) (a b c : ℕ) → replay_of (with_lock false d) (memory (a ∷ b ∷ []) (c ∷ [])) worked_save ≡ (accepted tt, worked_memory)
+  pub replay-worked : (a b c : ℕ) → replay_of (memory (a ∷ b ∷ []) (c ∷ [])) worked_save ≡ (accepted tt, worked_memory)

@@ -4,8 +4,8 @@
 //
 // The lists: a verbs that need no processor, d those of the processor that the bench holds, C commands,
 // R responses, U values, V the values of a Read, K kinds of device, S sources, I what a response is
-// asked for, L E D a dialect's address length, its encoding and what it is asked, O a lock, z answers that
-// are no verb's own; and with a text behind the name, e the letters of words and what is expected there, i the
+// asked for, L E D a dialect's address length, its encoding and what it is asked, z answers that are no
+// verb's own; and with a text behind the name, e the letters of words and what is expected there, i the
 // refusals. A new name comes behind those of its list, so that their numbers stay.
 //
 // The letters of words: a list's own letter for a name of it and the words of its row;
@@ -25,7 +25,7 @@ ghost use Rattle.std.specs.Prelude.{◌≤◌, length};
 use octets::Place;
 use octets::number::byte;
 
-pub const TABLE: [u8; 5188] = *b"a checksum x > c
+pub const TABLE: [u8; 5069] = *b"a checksum x > c
 a frame x r > n x
 a plain|strict x > p
 a from_f32|to_f32|float w > w
@@ -86,14 +86,13 @@ d replay x > done
 d judge x > n n
 d listing x r > n x
 d list_kept r > n x
-d device > hw_id n dsp_version n firmware n n kind K taps n eeprom n settings n kept n lock O
+d device > hw_id n dsp_version n firmware n n kind K taps n eeprom n settings n kept n
 d end > end n requests
 d write_save|read_save f > n
 d export r > n x
 d store_image x > done
 d keep_hex k > n
 d restore_hex > done
-d open|shut > done
 C ReadHardwareId|FirLoadEnd
 C ReadFloats|ReadMemory h b
 C WriteMemory h n n
@@ -135,7 +134,6 @@ D float w > U
 D int h > U
 D delay w > U
 D mute|invert t > U
-O open|shut
 z bad_verb bad verb
 z bad_argument bad argument : expected e
 z none none
@@ -190,7 +188,6 @@ i 15 the first of the joined views ends behind 65535
 i 16 the text is malformed, has another record type or no end record, or goes on behind it
 i 17 a record of the text has a wrong checksum
 i 18 two rows of the text name one byte
-i 19 locked: the lock is shut, and the call names a byte or word, or is a replay
 ";
 
 // A name's number in its list, its place, and where the words of its row begin.

@@ -4,20 +4,17 @@ use mathlib.Core.Path.{◌≡◌, refl}
 use mathlib.Core.Bool.{Bool, true, false}
 use mathlib.Core.List.{List}
 use lib.ListN.{length}
-use Rattle.octets.specs.Refusals.{locked}
 use Rattle.octets.specs.Outcome.{Outcome, accepted, refused}
 use Rattle.octets.specs.Choice.{pick}
 use Rattle.octets.specs.Place.{part_of}
 use Rattle.octets.specs.declared.Place.{Place}
 use Rattle.octets.proofs.Choosing.{refused-accepted}
-use Rattle.octets.proofs.Outcomes.{was-picked}
 use Rattle.packet.specs.Receipt.{plain_of}
 use Rattle.commands.specs.Decode.{command_of}
 use Rattle.commands.specs.declared.Commands.{Commands}
 use Rattle.responses.specs.declared.Responses.{Responses}
 use Rattle.processor.specs.Memory.{Memory, store, oversized}
-use Rattle.processor.specs.Lock.{is_locked}
-use Rattle.device.specs.Effect.{Effect, effect_of}
+use Rattle.device.specs.Effect.{Effect}
 use Rattle.device.specs.Names.{names}
 use Rattle.device.specs.Data.{data_of}
 use Rattle.processor.specs.Puts.{AllWithin}
@@ -50,7 +47,7 @@ module _ (m : Memory) (out : List ℕ) where
   module _ (d : Device) (c : Commands) (p : List ℕ) where
     does : {A : Type 0} (next : Effect → Left A) → ((e : Effect) (a : A) → (next e).0 ≡ accepted a → (next e).1 ≡ store e.writes m) → (o : Outcome Effect) → effect_in d p m c ≡ o
         → (a : A) → (refusing m out o next).0 ≡ accepted a → Does c p m (refusing m out o next).1
-    does next h (accepted e) q a g = let put = effect-names _ _ d p c e (was-picked (is_locked d (names p c)) locked (effect_of d p (length m.eeprom) (length m.settings) c) q) in record { inside = rw (← put.0) put.1; stores = rw (← put.0) (h e a g) }
+    does next h (accepted e) q a g = let put = effect-names _ _ d p c e q in record { inside = rw (← put.0) put.1; stores = rw (← put.0) (h e a g) }
     does next h (refused k) q a g = absurd (refused-accepted g)
 
     command-does : (framed : Bool) (n : ℕ) → (command_into d framed c p m out).0 ≡ accepted n → Does c p m (command_into d framed c p m out).1

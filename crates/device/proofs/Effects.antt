@@ -1,6 +1,6 @@
 -- What a command is accepted to do is what it names, and lies within the memories.
 use Prim.Native.Nat.{ℕ, ◌+◌}
-use mathlib.Core.Path.{◌≡◌, refl, sym, ap, ◌∙◌, subst}
+use mathlib.Core.Path.{◌≡◌, refl, subst}
 use mathlib.Core.Bool.{Bool, true, false}
 use mathlib.Core.List.{List, [], ◌∷◌}
 use native.Mathlib.Omega.{arith}
@@ -21,11 +21,9 @@ use Rattle.responses.specs.declared.Responses.{Responses}
 use Rattle.responses.specs.declared.Responses.TheVariants.{Ack}
 use Rattle.processor.specs.Memory.{Store, to_eeprom, to_settings}
 use Rattle.device.specs.Effect.{Effect, effect, tells_of, write_memory_does, write_does, set_byte, effect_of}
-use Rattle.device.specs.Names.{bytes_named, word_named, byte_named, names}
+use Rattle.device.specs.Names.{word_named, byte_named, names}
 use Rattle.processor.specs.Puts.{AllWithin}
 use Rattle.processor.specs.declared.Device.{Device}
-use Rattle.device.proofs.Words.{value-length}
-use Rattle.device.proofs.Named.{named-bytes}
 
 module _ (e s : ℕ) where
   -- what is accepted puts these, which lie within
@@ -41,25 +39,24 @@ module _ (e s : ℕ) where
   tells : (r : Responses) → Named [] (accepted (tells_of r))
   tells r = gives (tells_of r) refl tt
 
-  of-memory : (p : List ℕ) (a : ℕ) (place : Place) → Named (to_eeprom a (bytes_named p place) ∷ []) (write_memory_does p e a place)
+  of-memory : (p : List ℕ) (a : ℕ) (place : Place) → Named (to_eeprom a (part_of p place) ∷ []) (write_memory_does p e a place)
   of-memory p a place = go (is_outside place (length p)) refl
     where
-      go : (b : Bool) → is_outside place (length p) ≡ b → Named (to_eeprom a (bytes_named p place) ∷ []) (pick b (refused outside) (if_lt e (a + place.len) (refused outside) (accepted (effect Ack (to_eeprom a (part_of p place) ∷ [])))))
-      go true q = never _
-      go false q =
-          let inside = was-inside place (length p) q in
-          let n = length_part p place inside in
-          either_lt (Named _) _ _ _ _ (λ h. never _) (λ h. gives _ (ap (λ (b : List ℕ). to_eeprom a b ∷ []) (sym (named-bytes p place inside))) (omega (arith, n), tt))
+      ws : List Store
+      ws = to_eeprom a (part_of p place) ∷ []
 
-  of_word : (p : List ℕ) (a : ℕ) (v : Value) → Named (word_named a v p) (write_does p s a v)
-  of_word p a v = go (value_outside v (length p)) refl
-    where
-      go : (b : Bool) → value_outside v (length p) ≡ b → Named (word_named a v p) (pick b (refused outside) (if_eq (length (value_bytes v p)) 4 (if_lt a s (accepted (effect Ack (to_settings a (little_at 4 (value_bytes v p) 0) ∷ []))) (refused outside)) (accepted (tells_of Ack))))
+      go : (b : Bool) → is_outside place (length p) ≡ b → Named ws (pick b (refused outside) (if_lt e (a + place.len) (refused outside) (accepted (effect Ack ws))))
       go true q = never _
-      go false q =
-          let n = sym (value-length v p q) in
-          either-eq (Named _) _ _ _ _ (λ four. either_lt (Named _) _ _ _ _ (λ g. gives _ (same _ _ _ _ _ (n ∙ four) refl) (g, tt)) (λ g. never _))
-          (λ other_length. gives _ (other _ _ _ _ _ (λ h. other_length (sym n ∙ h)) refl) tt)
+      go false q = either_lt (Named _) _ _ _ _ (λ h. never _) (λ h. gives _ refl (let n = length_part p place (was-inside place (length p) q) in omega (arith, n), tt))
+
+  of_word : (p : List ℕ) (a : ℕ) (v : Value) → Named (word_named a (value_bytes v p)) (write_does p s a v)
+  of_word p a v = go (value_outside v (length p))
+    where
+      go : (b : Bool) → Named (word_named a (value_bytes v p)) (pick b (refused outside) (if_eq (length (value_bytes v p)) 4 (if_lt a s (accepted (effect Ack (to_settings a (little_at 4 (value_bytes v p) 0) ∷ []))) (refused outside)) (accepted (tells_of Ack))))
+      go true = never _
+      go false =
+          either-eq (Named _) _ _ _ _ (λ four. either_lt (Named _) _ _ _ _ (λ g. gives _ (same _ _ _ _ _ four refl) (g, tt)) (λ g. never _))
+          (λ other_length. gives _ (other _ _ _ _ _ other_length refl) tt)
 
   of-byte : (a value : ℕ) (r : Responses) → Named (byte_named a value) (set_byte e a value r)
   of-byte a value r = either_lt (Named _) _ _ _ _ (λ h. gives _ refl (omega arith, tt)) (λ h. never _)

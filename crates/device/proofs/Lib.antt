@@ -1,9 +1,7 @@
 pub mod Words
-pub mod Named
 pub mod Payload
 pub mod Answers
 pub mod Determined
 pub mod Refusals
 pub mod Effects
 pub mod Accepted
-pub mod Locked

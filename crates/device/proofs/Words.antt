@@ -1,4 +1,4 @@
--- A value's bytes are as many as its record says, and four of them are a word.
+-- A value's four bytes are a word.
 use Prim.Native.Nat.{ℕ}
 use mathlib.Core.Path.{◌≡◌, sym, ap, ◌∙◌}
 use mathlib.Core.Bool.{Bool, true, false}
@@ -9,20 +9,9 @@ use Rattle.octets.specs.Refusals.{outside}
 use Rattle.octets.specs.Outcome.{Outcome, refused}
 use Rattle.octets.specs.Choice.{pick}
 use Rattle.octets.specs.Over.{into}
-use Rattle.octets.proofs.InBytes.{length-little, length-big}
-use Rattle.octets.proofs.Parts.{length_part, was-inside}
 use Rattle.octets.proofs.Overlay.{put-over, over-whole}
 use Rattle.fields.specs.Value.{value_bytes, value_outside, value_into}
 use Rattle.fields.specs.declared.value.Value.{Value}
-use Rattle.fields.specs.declared.value.Value.TheVariants.{Float, FixedPoint, Int, Int32, Unknown}
-use Rattle.device.specs.Names.{value_length}
-
-pub value-length : (v : Value) (p : List ℕ) → value_outside v (length p) ≡ false → length (value_bytes v p) ≡ value_length v
-value-length (Float x) p h = length-little 4 _
-value-length (FixedPoint x) p h = length-big 4 _
-value-length (Int n) p h = length-little 4 n
-value-length (Int32 n) p h = length-big 4 n
-value-length (Unknown place) p h = length_part p place (was-inside place (length p) h)
 
 -- written over a buffer of their own size, they are what it holds
 pub value-whole : (v : Value) (p z : List ℕ) {r : Outcome ℕ} {o : List ℕ} → value_outside v (length p) ≡ false → length (value_bytes v p) ≡ length z → (r, o) ≡ value_into v p z → o ≡ value_bytes v p

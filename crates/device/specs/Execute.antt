@@ -1,6 +1,6 @@
 -- Executing commands: what is answered, and what is left in the memories and in the lent output.
 use Rattle.std.specs.Prelude.{ℕ, Bool, true, false, List, length}
-use Rattle.octets.specs.Refusals.{wrong_sizes, locked}
+use Rattle.octets.specs.Refusals.{wrong_sizes}
 use Rattle.octets.specs.Outcome.{Outcome, accepted, refused}
 use Rattle.octets.specs.Choice.{pick}
 use Rattle.octets.specs.Over.{over, settle}
@@ -14,9 +14,7 @@ use Rattle.commands.specs.declared.Commands.{Commands}
 use Rattle.responses.specs.Encode.{response_row}
 use Rattle.responses.specs.declared.Responses.{Responses}
 use Rattle.processor.specs.Memory.{Memory, Store, store, oversized}
-use Rattle.processor.specs.Lock.{is_locked}
 use Rattle.device.specs.Effect.{Effect, effect_of}
-use Rattle.device.specs.Names.{names}
 use Rattle.device.specs.Data.{data_of}
 use Rattle.processor.specs.declared.Device.{Device}
 use Rattle.device.specs.declared.execute.Executed.{Executed}
@@ -39,12 +37,8 @@ refusing m out (refused k) next = (refused k, m, out)
 abbrev pub if_sized : {A : Type 0} → Memory → List ℕ → Left A → Left A
 if_sized m out next = pick (oversized m) (refused wrong_sizes, m, out) next
 
--- "19 locked, given after 3 and 4 and before 7": between the command and what it does to memories of these sizes
-abbrev pub effect_unless_locked : Device → List ℕ → ℕ → ℕ → Commands → Outcome Effect
-effect_unless_locked d p e s c = pick (is_locked d (names p c)) (refused locked) (effect_of d p e s c)
-
 abbrev pub effect_in : Device → List ℕ → Memory → Commands → Outcome Effect
-effect_in d p m c = effect_unless_locked d p (length m.eeprom) (length m.settings) c
+effect_in d p m c = effect_of d p (length m.eeprom) (length m.settings) c
 
 -- the answer's frame, or its packet alone
 abbrev pub form_of : Bool → List ℕ → List ℕ
@@ -69,8 +63,8 @@ abbrev pub command_into : Device → Bool → Commands → List ℕ → Memory �
 command_into d framed c p m out = refusing m out (effect_in d p m c) (effect_into framed m out)
 
 -- "A command record executed directly: 14, 7, then 8 for an address in the answer and 6, both only where the answer's
--- bytes go to a lent output", with 19 before 7. Between 8 and 6 comes 5, for "packet over 254 bytes": `encoded_of` asks it of every
--- packet (docs/DECISIONS.md).
+-- bytes go to a lent output". Between 8 and 6 comes 5, for "packet over 254 bytes": `encoded_of` asks it of every packet
+-- (docs/DECISIONS.md).
 abbrev pub executed_into : Device → Commands → List ℕ → Memory → List ℕ → Left ℕ
 executed_into d c p m out = if_sized m out (command_into d false c p m out)
 

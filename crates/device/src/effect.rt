@@ -3,11 +3,8 @@ ghost use Rattle.std.specs.Prelude.{◌≡◌, false, List, ℕ, ◌≤◌, eqb,
 ghost use Rattle.octets.specs.Number.{little_at};
 ghost use Rattle.fields.specs.Value.{value_bytes, value_outside};
 ghost use Rattle.responses.specs.declared.Responses.TheVariants.{FirLoadSize};
-ghost use Rattle.processor.specs.Lock.{names_any};
 ghost use Rattle.processor.specs.declared.change.Change.TheVariants.{Nothing};
 ghost use Rattle.device.specs.Inside.{decided, does, data_length, answer_length};
-ghost use Rattle.device.specs.Names.{names, value_length};
-ghost use Rattle.device.specs.Execute.{effect_unless_locked};
 ghost use Rattle.device.specs.Effect.{effect_of, taken_of, identity_of, reading_of, read_memory_does, write_memory_does, read_floats_does, write_does, set_byte};
 
 use commands::Commands;
@@ -18,7 +15,6 @@ use fields::value::Value;
 use numbers::fixed_point::FixedPoint;
 use octets::{Place, number, refusal};
 use processor::change::Change;
-use processor::lock::is_locked;
 use processor::{Device, LARGEST};
 use responses::Responses::{Ack, ConfigChanged, Unk02};
 use responses::{Responses, Values};
@@ -42,53 +38,8 @@ pub enum Decided {
 // Read's answer, the code of -10 dB
 const READ_ANSWER: u32 = 0x0028_7A26;
 
-// What a command does, unless the lock is shut and it names a byte or word.
-pub fn decide_unless_locked(
-    device: Device,
-    command: Commands,
-    payload: &[u8],
-    e: usize,
-    s: usize,
-) -> Decided
-    ensures { (decided payload.now result ≡ effect_unless_locked device payload.now e s command) × (answer_length result ≤ 1020) }
-{
-    if is_locked(device, names_any(command)) {
-        return Decided::Refused(refusal::LOCKED);
-    }
-    decide(device, command, payload, e, s)
-}
-
-// Whether a command names a byte or word, inside memory or not: its record tells, and no payload is asked.
-fn names_any(command: Commands) -> bool
-    ensures { (p : List ℕ) → result ≡ names_any (names p command) }
-{
-    match command {
-        Commands::WriteMemory { addr: _, data } => 0 < data.len,
-        Commands::Write { addr: _, value } => is_four(value),
-        Commands::SetConfig { .. } => true,
-        Commands::SetSource { .. } => true,
-        Commands::SetMute { .. } => true,
-        Commands::SetVolume { .. } => true,
-        Commands::ReadHardwareId => false,
-        Commands::ReadMemory { .. } => false,
-        Commands::ReadFloats { .. } => false,
-        Commands::FirLoadStart { .. } => false,
-        Commands::Unk07 { .. } => false,
-        Commands::Read { .. } => false,
-        Commands::WriteBiquad { .. } => false,
-        Commands::WriteBiquadBypass { .. } => false,
-        Commands::FirLoadData { .. } => false,
-        Commands::FirLoadEnd => false,
-        Commands::DiracBypass { .. } => false,
-        Commands::BulkLoad { .. } => false,
-        Commands::BulkLoadFilterData { .. } => false,
-        Commands::SwitchMux { .. } => false,
-        Commands::Unknown { .. } => false,
-    }
-}
-
 // A payload of the answer, from eeprom or settings, stands at the start of its own bytes.
-fn decide(device: Device, command: Commands, payload: &[u8], e: usize, s: usize) -> Decided
+pub fn decide(device: Device, command: Commands, payload: &[u8], e: usize, s: usize) -> Decided
     ensures { (decided payload.now result ≡ effect_of device payload.now e s command) × (answer_length result ≤ 1020) }
 {
     match command {
@@ -236,7 +187,7 @@ fn write_word(addr: u32, value: Value, payload: &[u8], s: usize) -> Decided
 }
 
 fn is_four(value: Value) -> bool
-    ensures { result ≡ eqb (value_length value) 4 }
+    ensures { (p : List ℕ) → value_outside value (length p) ≡ false → result ≡ eqb (length (value_bytes value p)) 4 }
 {
     match value {
         Value::Float(_) => true,

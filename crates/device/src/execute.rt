@@ -8,7 +8,7 @@ ghost use Rattle.device.specs.Inside.{data_length};
 ghost use Rattle.device.specs.Data.{data_of, memory_part, words_part};
 ghost use Rattle.device.specs.Execute.{executed, executed_record, executed_into, command_into, answer_into, store_if, packet_into, received_into};
 
-use crate::effect::{Decided, decide_unless_locked, taken};
+use crate::effect::{Decided, decide, taken};
 use commands::Commands;
 use commands::decode::ReadCommand;
 use octets::{Place, Written, number, refusal};
@@ -99,7 +99,7 @@ pub fn execute(
     if too_large(eeprom.len(), settings.len()) {
         return Executed::Refused(refusal::WRONG_SIZES);
     }
-    match decide_unless_locked(device, command, payload, eeprom.len(), settings.len()) {
+    match decide(device, command, payload, eeprom.len(), settings.len()) {
         Decided::Does(effect) => {
             let response = effect.response;
             let change = effect.change;
@@ -123,7 +123,7 @@ fn answer_into(
 ) -> Written
     ensures { (written result, memory eeprom.new settings.new, out.new) ≡ command_into device framed command payload.now (memory eeprom.old settings.old) out.old }
 {
-    match decide_unless_locked(device, command, payload, eeprom.len(), settings.len()) {
+    match decide(device, command, payload, eeprom.len(), settings.len()) {
         Decided::Does(effect) => {
             let response = effect.response;
             let change = effect.change;

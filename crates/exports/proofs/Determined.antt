@@ -26,5 +26,5 @@ command-fixed κs args a b x y p q = agree p q
 pub save-fixed : Fixes (ℕ × List ℕ) save.Post (λ κs answer left. (answer, left.1.1.0.now))
 save-fixed κs args a b x y p q = agree p q
 
-pub replay-fixed : Fixes (ℕ × Memory) replay.Post (λ κs answer left. (answer, memory left.1.0.now left.1.1.0.now))
+pub replay-fixed : Fixes (ℕ × Memory) replay.Post (λ κs answer left. (answer, memory left.0.now left.1.0.now))
 replay-fixed κs args a b x y p q = agree p q

@@ -1,7 +1,7 @@
 // For callers in C or Rust, which lend a pointer and a length for each slice: the numbers, patterns in
 // and patterns out; frames, a save and a replay, each of which answers 0 or the number of its refusal.
 // What compare/rust/all, compare/paper/large and compare/speed link.
-ghost use Rattle.std.specs.Prelude.{◌≡◌, ltb, length};
+ghost use Rattle.std.specs.Prelude.{◌≡◌, length};
 ghost use Rattle.octets.specs.Outcome.{written};
 ghost use Rattle.octets.specs.Place.{place_at};
 ghost use Rattle.numbers.specs.FixedPoint.{code_of, bits_of_code};
@@ -10,10 +10,7 @@ ghost use Rattle.fields.specs.Row.{row_frame_into};
 ghost use Rattle.commands.specs.Encode.{command_row};
 ghost use Rattle.commands.specs.Decode.{no_values};
 ghost use Rattle.commands.specs.declared.Commands.TheVariants.{Unknown};
-ghost use Rattle.facts.specs.declared.probe.DeviceKind.TheVariants.{Generic};
 ghost use Rattle.processor.specs.Memory.{memory};
-ghost use Rattle.processor.specs.Lock.{with_lock};
-ghost use Rattle.processor.specs.Create.{device_of};
 ghost use Rattle.saves.specs.Save.{saved_into};
 ghost use Rattle.saves.specs.Replay.{replay_of};
 ghost use Rattle.exports.specs.Answer.{in_number, written_number, out_number};
@@ -23,7 +20,6 @@ use commands::decode::no_values;
 use numbers::fixed_point::FixedPoint;
 use numbers::float;
 use octets::{Done, Place, Written};
-use processor::{Device, create};
 use saves::replay::replay;
 use saves::save::save;
 
@@ -83,22 +79,12 @@ pub extern "C" fn wovenpike_save(eeprom: &[u8], settings: &[u32], out: &mut [u8]
     number_of(save(eeprom, settings, out))
 }
 
-// Replays a save on a device whose lock is open, which is 0, or shut, which is any other number. No more of
-// a device is asked.
+// Replays a save.
 #[unsafe(no_mangle)]
-pub extern "C" fn wovenpike_replay(
-    lock: u8,
-    eeprom: &mut [u8],
-    settings: &mut [u32],
-    save: &[u8],
-) -> u8
-    ensures { (result, memory eeprom.new settings.new) ≡ in_number (replay_of (with_lock (ltb 0 lock) (device_of 10 100 Generic 0)) (memory eeprom.old settings.old) save.now) }
+pub extern "C" fn wovenpike_replay(eeprom: &mut [u8], settings: &mut [u32], save: &[u8]) -> u8
+    ensures { (result, memory eeprom.new settings.new) ≡ in_number (replay_of (memory eeprom.old settings.old) save.now) }
 {
-    let device = Device {
-        shut: 0 < lock,
-        ..create::default(0)
-    };
-    match replay(device, eeprom, settings, save) {
+    match replay(eeprom, settings, save) {
         Done::Done => 0,
         Done::Refused(k) => k,
     }

@@ -3,7 +3,6 @@
 use images::export::export;
 use libc::STDIN_FILENO;
 use octets::{Done, Written};
-use processor::create;
 use programs::lent::*;
 use programs::prints::*;
 use saves::replay::replay;
@@ -53,7 +52,7 @@ fn judge_and_print(save: &[u8], eeprom: &mut [u8], settings: &mut [u32], output:
 }
 
 fn print_restored(save: &[u8], eeprom: &mut [u8], settings: &mut [u32], output: &mut [u8]) {
-    match replay(create::default(0), eeprom, settings, save) {
+    match replay(eeprom, settings, save) {
         Done::Done => print_hex(&eeprom[..], output),
         Done::Refused(number) => print_refusal(number),
     }

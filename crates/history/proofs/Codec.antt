@@ -33,9 +33,7 @@ use Rattle.responses.specs.declared.Responses.TheVariants.{Ack}
 use Rattle.processor.specs.Memory.{Store, to_eeprom, to_settings}
 use Rattle.processor.specs.Puts.{Within}
 use Rattle.device.specs.Effect.{effect, effect_of}
-use Rattle.device.specs.Names.{value_length, names}
-use Rattle.device.proofs.Words.{value-length}
-use Rattle.device.proofs.Named.{named-bytes}
+use Rattle.device.specs.Names.{names}
 use Rattle.processor.specs.declared.Device.{Device}
 use Rattle.streams.specs.Means.{packet_means, frame_means, memory_means, word_means}
 
@@ -63,7 +61,7 @@ module _ (e s : ℕ) (p : List ℕ) (short : length p ≤ 254) where
       record {
         command = WriteMemory (big_at 2 p 1) (rest 3 p);
         reads = sym (above _ _ _ _ _ short (above _ _ _ _ _ (omega arith) (other _ _ _ _ _ (λ h. omega arith) (same _ _ _ _ _ k (above _ _ _ _ _ long refl)))));
-        names-it = rw (named-bytes p (rest 3 p) (omega arith), rest-is);
+        names-it = rw rest-is;
         inside = omega (arith, length-drop 3 p);
         does = λ d. rw (← is-inside (rest 3 p) (length p) (omega arith), rest-is) (sym (above _ _ _ _ _ inside refl));
       }
@@ -95,11 +93,10 @@ module _ (e s : ℕ) (p : List ℕ) (short : length p ≤ 254) where
     word-puts : at p 0 ≡ 0x13 → (addr_at 3 p 1).val < s → Puts e s p (to_settings (addr_at 3 p 1).val (little_at 4 p 4))
     word-puts k inside =
         let four : length (drop 4 p) ≡ 4 = length-drop 4 p ∙ omega arith in
-        let has-four : value_length v ≡ 4 = sym (value-length v p placed) ∙ rw bytes-are four in
         record {
           command = Write (addr_at 3 p 1) v;
           reads = reads-write k;
-          names-it = rw (bytes-are, value-is) (sym (same _ _ _ _ _ has-four refl));
+          names-it = rw (bytes-are, value-is) (sym (same _ _ _ _ _ four refl));
           inside = inside;
           does = λ d. rw (placed, bytes-are, value-is) (sym (same _ _ _ _ _ four (below _ _ _ _ _ inside refl)));
         }

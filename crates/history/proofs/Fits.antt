@@ -32,7 +32,7 @@ both-fit (w ∷ a) b h g = (h.0, both-fit a b h.1 g)
 
 -- ---- what they leave
 -- bytes and words alike: numbers below k
-abbrev pub Below : ℕ → List ℕ → Type 0
+abbrev Below : ℕ → List ℕ → Type 0
 Below k l = (i : ℕ) → at l i < k
 
 one_below : (k w : ℕ) → w < k → Below k (w ∷ [])
@@ -70,7 +70,7 @@ whole-fit m octets words =
     both-fit (each (block_store m.eeprom) (blocks (length m.eeprom))) (each (word_store m.settings) (length m.settings))
     (each-fit (block_store m.eeprom) _ (λ k. part-octets m.eeprom (place_at (32 * k) 32) octets)) (each-fit (word_store m.settings) _ words)
 
-pub same-below : (k w n : ℕ) → w < k → Below k (replicate n w)
+same-below : (k w n : ℕ) → w < k → Below k (replicate n w)
 same-below k w zero h i = omega arith
 same-below k w (suc n) h zero = h
 same-below k w (suc n) h (suc i) = same-below k w n h i

@@ -26,13 +26,13 @@ right (new made typed meters) m = new-right made meters m
 right (receive d frame octets out) m = received-right d m out frame
 right (execute d c typed p octets out) m = executed-right d m out c p
 right (execute-into d c typed p octets out) m = executed-into-right d m out c p
-right (write-u8 d a value typed) m = written-right m d a (value ∷ [])
-right (write-u16 d a value typed) m = written-right m d a (big_bytes 2 value)
-right (write-u32 d a value typed) m = written-right m d a (big_bytes 4 value)
-right (set-serial d value typed) m = written-right m d at_serial (big_bytes 4 (value - 900000))
-right (set-timestamp d value typed) m = stamped-right m d value
-right (store-image d image octets) m = image-right m d image
-right (replay d l octets) m = replay-right d m l octets
+right (write-u8 a value typed) m = written-right m a (value ∷ [])
+right (write-u16 a value typed) m = written-right m a (big_bytes 2 value)
+right (write-u32 a value typed) m = written-right m a (big_bytes 4 value)
+right (set-serial value typed) m = written-right m at_serial (big_bytes 4 (value - 900000))
+right (set-timestamp value typed) m = stamped-right m value
+right (store-image image octets) m = image-right m image
+right (replay l octets) m = replay-right m l octets
 right (save out) m = go (saved_into m out).0
   where
     go : (o : Outcome ℕ) → Right m (on_accepted (λ n. tt) o) [] m

@@ -11,5 +11,4 @@ pub mod Values
 pub mod Kept
 pub mod Saved
 pub mod Restores
-pub mod Locked
 pub mod Tallied

@@ -5,16 +5,15 @@ use mathlib.Core.List.{List, [], ◌∷◌, ◌++◌}
 use lib.ListN.{length, drop}
 use Rattle.octets.specs.Outcome.{Outcome, accepted, refused}
 use Rattle.octets.specs.Number.{Octets}
-use Rattle.octets.proofs.Choosing.{either-eq, either-pick}
+use Rattle.octets.proofs.Choosing.{either-eq}
 use Rattle.octets.proofs.Outcomes.{then-both, same-value}
 use Rattle.octets.proofs.Bytes.{behind-octets, part-octets}
-use Rattle.processor.specs.Memory.{Memory, Store, oversized}
+use Rattle.processor.specs.Memory.{Memory, Store}
 use Rattle.processor.specs.Puts.{AllWithin}
-use Rattle.processor.specs.declared.Device.{Device}
 use Rattle.streams.specs.Stream.{length_of, content_of, behind, tag_of, Stream, stream_up_to, stream_of}
 use Rattle.streams.specs.Means.{frame_means, all_mean}
 use Rattle.streams.specs.Judge.{Save, checked_for}
-use Rattle.saves.specs.Replay.{storing, replay_open, replay_of}
+use Rattle.saves.specs.Replay.{storing, replay_of}
 use Rattle.history.proofs.Codec.{frame-command}
 use Rattle.streams.proofs.Sound.{checked-means}
 use Rattle.history.specs.History.{AllOctets, frames_names, frames_in, EachNames}
@@ -48,9 +47,9 @@ module _ (e s : ℕ) where
       let all : first.value ∷ others.value ≡ ws = same-value others.second in
       subst (λ (ws : List Store). EachNames (frame ∷ frames) ws × AllWithin e s ws) all ((rw (sent.receives, sent.puts.reads) sent.puts.names-it, rest.0), (sent.puts.inside, rest.1))
 
-pub replay-right : (d : Device) (m : Memory) (l : List ℕ) → Octets l → Right m (replay_of d m l).0 (frames_names (frames_in l)) (replay_of d m l).1
-unfolding replay_open
-replay-right d m l octets = either-pick P (oversized m) _ _ (λ large. (refl, tt)) (λ sized. either-pick P d.shut _ _ (λ shut. (refl, tt)) (λ is_open. stores (checked_for e s l) refl))
+pub replay-right : (m : Memory) (l : List ℕ) → Octets l → Right m (replay_of m l).0 (frames_names (frames_in l)) (replay_of m l).1
+unfolding replay_of
+replay-right m l octets = stores (checked_for e s l) refl
   where
     e : ℕ
     e = length m.eeprom

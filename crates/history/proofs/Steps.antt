@@ -1,28 +1,27 @@
 -- One call: it leaves the memories with exactly the writes stored that an accepted call names, all of which lie within.
 use Prim.Native.Nat.{ℕ, ◌+◌, ◌%◌, ◌^◌, ◌≤◌}
 use mathlib.Core.Path.{◌≡◌, refl, sym, ap, ◌∙◌}
-use mathlib.Core.List.{List, []}
+use mathlib.Core.List.{List, [], ◌∷◌}
 use native.Mathlib.Omega.{arith}
 use lib.ListN.{length}
 use Rattle.octets.specs.Outcome.{Outcome, accepted, refused, on_accepted}
 use Rattle.octets.specs.Number.{big_bytes}
 use Rattle.octets.specs.Over.{over_at}
-use Rattle.octets.proofs.Choosing.{either_lt, either-eq, either-pick}
+use Rattle.octets.proofs.Choosing.{either_lt, either-eq}
 use Rattle.octets.proofs.Overlay.{over-whole, length-over-at, put-inside}
 use Rattle.octets.proofs.InBytes.{length-big}
 use Rattle.facts.specs.Eeprom.{at_timestamp, at_timestamp2x4}
 use Rattle.commands.specs.declared.Commands.{Commands}
-use Rattle.processor.specs.Memory.{Memory, memory, Store, put_at, store}
-use Rattle.processor.specs.Lock.{is_locked}
-use Rattle.device.specs.Names.{names, frame_names}
+use Rattle.processor.specs.Memory.{Memory, memory, Store, to_eeprom, put_at, store}
+use Rattle.device.specs.Names.{names}
 use Rattle.processor.specs.Puts.{AllWithin}
-use Rattle.processor.specs.Calls.{bytes_from, write_bytes, stamp_from, set_timestamp}
-use Rattle.images.specs.Store.{image_names, stored_image}
+use Rattle.processor.specs.Calls.{write_bytes, set_timestamp}
+use Rattle.images.specs.Store.{stored_image}
 use Rattle.device.specs.Execute.{Left, received_into, executed_into, executed_record}
 use Rattle.processor.specs.declared.Device.{Device}
 use Rattle.device.proofs.Accepted.{Received, received-does, executed-into-does, executed-does}
 use Rattle.device.proofs.Refusals.{Kept, received-kept, executed-into-kept, executed-kept}
-use Rattle.history.specs.History.{on_both, if_accepted}
+use Rattle.history.specs.History.{on_both, frame_names, if_accepted}
 
 -- what is left where an outcome takes these writes
 abbrev pub Right : Memory → Outcome Unit → List Store → Memory → Type 0
@@ -55,19 +54,15 @@ module _ (m : Memory) where
   abbrev EepromRight : List Store → Outcome Unit × List ℕ → Type 0
   EepromRight ws left = Right m left.0 ws (memory left.1 m.settings)
 
-  pub written-right : (d : Device) (a : ℕ) (b : List ℕ) → EepromRight (bytes_from a b) (write_bytes d a b m.eeprom)
-  written-right d a b =
-      either_lt P _ _ _ _ (λ h. (refl, tt)) (λ h. either-pick P (is_locked d (bytes_from a b)) _ _ (λ l. (refl, tt))
-      (λ l. either_lt P _ _ _ _ (λ g. (refl, tt)) (λ g. (ap (λ (l : List ℕ). memory l m.settings) (put-inside m.eeprom a b g), (g, tt)))))
-    where
-      P : Outcome Unit × List ℕ → Type 0
-      P = EepromRight (bytes_from a b)
+  pub written-right : (a : ℕ) (b : List ℕ) → EepromRight (to_eeprom a b ∷ []) (write_bytes a b m.eeprom)
+  written-right a b =
+      either_lt (EepromRight (to_eeprom a b ∷ [])) _ _ _ _ (λ h. (refl, tt))
+      (λ h. either_lt (EepromRight (to_eeprom a b ∷ [])) _ _ _ _ (λ g. (refl, tt)) (λ g. (ap (λ (l : List ℕ). memory l m.settings) (put-inside m.eeprom a b g), (g, tt))))
 
   -- both places, in the code's order
-  pub stamped-right : (d : Device) (value : ℕ) → EepromRight (stamp_from value) (set_timestamp d value m.eeprom)
-  stamped-right d value =
-      either_lt P _ _ _ _ (λ h. (refl, tt)) (λ h. either-pick P (is_locked d (stamp_from value)) _ _ (λ l. (refl, tt))
-      (λ l. either_lt P _ _ _ _ (λ g. (refl, tt)) (λ g. either_lt P _ _ _ _ (λ k. (refl, tt)) (λ k. both g k))))
+  pub stamped-right : (value : ℕ) → EepromRight (to_eeprom at_timestamp (big_bytes 4 value) ∷ to_eeprom at_timestamp2x4 (big_bytes 2 (value % 2 ^ 16)) ∷ []) (set_timestamp value m.eeprom)
+  stamped-right value =
+      either_lt P _ _ _ _ (λ h. (refl, tt)) (λ h. either_lt P _ _ _ _ (λ g. (refl, tt)) (λ g. either_lt P _ _ _ _ (λ k. (refl, tt)) (λ k. both g k)))
     where
       one : List ℕ
       one = big_bytes 4 value
@@ -76,7 +71,7 @@ module _ (m : Memory) where
       two = big_bytes 2 (value % 2 ^ 16)
 
       P : Outcome Unit × List ℕ → Type 0
-      P = EepromRight (stamp_from value)
+      P = EepromRight (to_eeprom at_timestamp one ∷ to_eeprom at_timestamp2x4 two ∷ [])
 
       both : at_timestamp + 4 ≤ length m.eeprom → at_timestamp2x4 + 2 ≤ length m.eeprom → P (accepted tt, over_at at_timestamp2x4 two (over_at at_timestamp one m.eeprom))
       both g k =
@@ -86,13 +81,13 @@ module _ (m : Memory) where
           (ap (λ (l : List ℕ). memory l m.settings) (put-inside (over_at at_timestamp one m.eeprom) at_timestamp2x4 two (rw kept second) ∙ ap (put_at at_timestamp2x4 two) (put-inside m.eeprom at_timestamp one first)), (first, (second, tt)))
 
   -- an image of the EEPROM's size covers all of it
-  pub image-right : (d : Device) (image : List ℕ) → EepromRight (image_names image) (stored_image d image m.eeprom)
+  pub image-right : (image : List ℕ) → EepromRight (to_eeprom 0 image ∷ []) (stored_image image m.eeprom)
   unfolding over_at
-  image-right d image =
-      either_lt P _ _ _ _ (λ h. (refl, tt)) (λ h. either-eq P _ _ _ _ (λ g. either-pick P (is_locked d (image_names image)) _ _ (λ l. (refl, tt)) (λ l. whole g)) (λ g. (refl, tt)))
+  image-right image =
+      either_lt P _ _ _ _ (λ h. (refl, tt)) (λ h. either-eq P _ _ _ _ whole (λ g. (refl, tt)))
     where
       P : Outcome Unit × List ℕ → Type 0
-      P = EepromRight (image_names image)
+      P = EepromRight (to_eeprom 0 image ∷ [])
 
       whole : length image ≡ length m.eeprom → P (accepted tt, image)
       whole g =

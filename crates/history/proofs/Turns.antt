@@ -9,20 +9,17 @@ use lib.ListN.{length}
 use Rattle.octets.specs.Outcome.{Outcome, accepted, refused, on_accepted}
 use Rattle.octets.specs.Over.{over}
 use Rattle.octets.specs.Number.{Octets}
-use Rattle.octets.specs.Place.{part_of}
-use Rattle.octets.proofs.Choosing.{above, either-pick, refused-accepted}
+use Rattle.octets.proofs.Choosing.{above, refused-accepted}
 use Rattle.octets.proofs.Outcomes.{then-both, same-value}
 use Rattle.packet.specs.Frame.{frame_of}
 use Rattle.fields.specs.Row.{packet_of, any_of, encoded_of}
 use Rattle.responses.specs.declared.Responses.TheVariants.{Ack}
 use Rattle.processor.specs.Memory.{Memory, Store, store_one, store, oversized}
-use Rattle.processor.proofs.Locks.{open-unlocked}
-use Rattle.device.specs.Names.{names}
 use Rattle.device.specs.Execute.{answer_into, received_into}
 use Rattle.processor.specs.declared.Device.{Device}
 use Rattle.streams.specs.Means.{frame_means, all_mean}
 use Rattle.streams.specs.Judge.{Save, checked_for}
-use Rattle.saves.specs.Replay.{storing, replay_open, replay_of}
+use Rattle.saves.specs.Replay.{storing, replay_of}
 use Rattle.history.proofs.Codec.{Sends, frame-command}
 use Rattle.streams.proofs.Sound.{checked-sized, checked-means}
 use Rattle.history.specs.History.{history, AllOctets, in_turn, AllAccepted, frames_in}
@@ -36,11 +33,11 @@ acknowledged out room =
     let empty : encoded_of [] [] ≡ accepted [] = sym (above _ _ _ _ _ (omega arith) refl) in
     rw empty (sym (above _ _ _ _ _ room refl))
 
-module _ (d : Device) (is_open : d.shut ≡ false) (out : List ℕ) (room : 2 ≤ length out) where
+module _ (d : Device) (out : List ℕ) (room : 2 ≤ length out) where
   received-ack : (m : Memory) (frame : List ℕ) (w : Store) → oversized m ≡ false → Sends (length m.eeprom) (length m.settings) frame w
       → ((received_into d frame m out).0 ≡ accepted 2) × ((received_into d frame m out).1 ≡ store_one w m)
   received-ack m frame w sized sent =
-      rw (sized, sent.receives, sent.puts.reads, open-unlocked d (names (part_of frame sent.place) sent.puts.command) is_open, sent.puts.does d, acknowledged out room) (refl, refl)
+      rw (sized, sent.receives, sent.puts.reads, sent.puts.does d, acknowledged out room) (refl, refl)
 
   in-turn : (frames : List (List ℕ)) (octets : AllOctets frames) (m : Memory) (ws : List Store) → oversized m ≡ false → all_mean (length m.eeprom) (length m.settings) frames ≡ accepted ws
       → AllAccepted (in_turn d frames octets out) m × (history (in_turn d frames octets out) m ≡ store ws m)
@@ -59,30 +56,26 @@ module _ (d : Device) (is_open : d.shut ≡ false) (out : List ℕ) (room : 2 �
       ((ap (on_accepted (λ n. tt)) one.0, subst (AllAccepted calls) (sym one.1) rest.0), ap (history calls) one.1 ∙ rest.1 ∙ ap (λ (ws : List Store). store ws m) all)
 
 -- what is known of an accepted replay
-record Replayed (d : Device) (m : Memory) (l : List ℕ) (after : Memory) : Type 0 where
-  pub is_open : d.shut ≡ false
+record Replayed (m : Memory) (l : List ℕ) (after : Memory) : Type 0 where
   pub save : Save
   pub checked : checked_for (length m.eeprom) (length m.settings) l ≡ accepted save
   pub stores : after ≡ store save.writes m
 
-replayed : (d : Device) (m : Memory) (l : List ℕ) → (replay_of d m l).0 ≡ accepted tt → Replayed d m l (replay_of d m l).1
-unfolding replay_open
-replayed d m l = either-pick P (oversized m) _ _ (λ large h. absurd (refused-accepted h)) (λ sized. either-pick P d.shut _ _ (λ shut h. absurd (refused-accepted h)) (λ is_open. stored is_open o refl))
+replayed : (m : Memory) (l : List ℕ) → (replay_of m l).0 ≡ accepted tt → Replayed m l (replay_of m l).1
+unfolding replay_of
+replayed m l = stored o refl
   where
-    P : Outcome Unit × Memory → Type 0
-    P left = left.0 ≡ accepted tt → Replayed d m l left.1
-
     o : Outcome Save
     o = checked_for (length m.eeprom) (length m.settings) l
 
-    stored : d.shut ≡ false → (x : Outcome Save) → o ≡ x → (storing m x).0 ≡ accepted tt → Replayed d m l (storing m x).1
-    stored opened (refused k) r h = absurd (refused-accepted h)
-    stored opened (accepted save) r h = record { is_open = opened; save = save; checked = r; stores = refl }
+    stored : (x : Outcome Save) → o ≡ x → (storing m x).0 ≡ accepted tt → Replayed m l (storing m x).1
+    stored (refused k) r h = absurd (refused-accepted h)
+    stored (accepted save) r h = record { save = save; checked = r; stores = refl }
 
--- by the same device; an output of two bytes is enough for each
-pub replay-in-turn : (d : Device) (m : Memory) (l : List ℕ) (octets : Octets l) (out : List ℕ) → 2 ≤ length out → (replay_of d m l).0 ≡ accepted tt
-    → let calls = in_turn d (frames_in l) (frames-octets l octets) out in AllAccepted calls m × (history calls m ≡ (replay_of d m l).1)
+-- an output of two bytes is enough for each
+pub replay-in-turn : (d : Device) (m : Memory) (l : List ℕ) (octets : Octets l) (out : List ℕ) → 2 ≤ length out → (replay_of m l).0 ≡ accepted tt
+    → let calls = in_turn d (frames_in l) (frames-octets l octets) out in AllAccepted calls m × (history calls m ≡ (replay_of m l).1)
 replay-in-turn d m l octets out room h =
-    let r = replayed d m l h in
-    let turn = in-turn d r.is_open out room (frames_in l) (frames-octets l octets) m r.save.writes (checked-sized l _ _ r.checked) (checked-means l _ _ r.checked) in
+    let r = replayed m l h in
+    let turn = in-turn d out room (frames_in l) (frames-octets l octets) m r.save.writes (checked-sized l _ _ r.checked) (checked-means l _ _ r.checked) in
     (turn.0, turn.1 ∙ sym r.stores)

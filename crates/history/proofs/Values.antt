@@ -2,21 +2,20 @@
 use Prim.Native.Nat.{ℕ, ◌<◌, min}
 use mathlib.Core.Path.{◌≡◌, refl, subst}
 use mathlib.Core.Bool.{Bool, true, false}
-use mathlib.Core.List.{List, [], ◌∷◌, ◌++◌}
+use mathlib.Core.List.{List, [], ◌∷◌}
 use native.Mathlib.Omega.{arith}
 use lib.Dec.{lit<}
-use lib.ListN.{replicate}
 use lib.Ieee.{binary32, to_bits}
 use Rattle.octets.specs.Outcome.{Outcome, accepted, refused, on_accepted, and_then}
 use Rattle.octets.specs.Choice.{if_eq}
 use Rattle.octets.specs.Number.{at, Octets}
-use Rattle.octets.specs.Place.{place_at, part_of}
+use Rattle.octets.specs.Place.{part_of}
 use Rattle.octets.specs.Reading.{needing}
 use Rattle.octets.specs.declared.Place.{Place}
 use Rattle.octets.proofs.Choosing.{either-eq, was-above}
 use Rattle.octets.proofs.Outcomes.{same-value}
 use Rattle.octets.proofs.InBytes.{little-lt}
-use Rattle.octets.proofs.Bytes.{both-octets, big-octets, little-octets, part-octets}
+use Rattle.octets.proofs.Bytes.{big-octets, little-octets, part-octets}
 use Rattle.packet.specs.Receipt.{plain_of}
 use Rattle.numbers.specs.Gain.{gain_byte}
 use Rattle.fields.specs.Addr.{bit}
@@ -26,11 +25,11 @@ use Rattle.fields.specs.declared.value.Value.TheVariants.{Float, FixedPoint, Int
 use Rattle.commands.specs.Decode.{command_of, command_by}
 use Rattle.commands.specs.declared.Commands.{Commands}
 use Rattle.commands.specs.declared.Commands.TheVariants.{ReadHardwareId, ReadFloats, WriteMemory, ReadMemory, SetConfig, SetSource, SetMute, SetVolume, WriteBiquad, WriteBiquadBypass, Read, Write, FirLoadStart, FirLoadData, FirLoadEnd, DiracBypass, BulkLoad, BulkLoadFilterData, Unk07, SwitchMux, Unknown}
-use Rattle.device.specs.Names.{bytes_named, names, if_read, frame_names}
+use Rattle.device.specs.Names.{names}
 use Rattle.history.specs.Types.{OfTypes}
-use Rattle.history.specs.History.{Call, bare, new, receive, execute, execute-into, write-u8, write-u16, write-u32, set-serial, set-timestamp, store-image, replay, save, AllOctets, frames_names, frames_in, named}
+use Rattle.history.specs.History.{Call, bare, new, receive, execute, execute-into, write-u8, write-u16, write-u32, set-serial, set-timestamp, store-image, replay, save, if_read, AllOctets, frame_names, frames_names, frames_in, named}
 use Rattle.history.proofs.Replays.{frames-octets}
-use Rattle.history.proofs.Fits.{AllFit, both-fit, same-below, byte, blank-fit, new-fit}
+use Rattle.history.proofs.Fits.{AllFit, both-fit, byte, blank-fit, new-fit}
 
 value-octets : (v : Value) (p : List ℕ) → Octets p → Octets (value_bytes v p)
 value-octets (Float x) p octets = little-octets 4 (to_bits binary32 x)
@@ -74,14 +73,8 @@ bit-lt true = lit< tt
 bit-lt false = lit< tt
 
 module _ (p : List ℕ) (octets : Octets p) where
-  bytes-octets : (place : Place) → Octets (bytes_named p place)
-  unfolding part_of
-  bytes-octets place =
-      let zeros : List ℕ = replicate place.len 0 in
-      part-octets (part_of p place ++ zeros) (place_at 0 place.len) (both-octets (part_of p place) zeros (part-octets p place octets) (same-below 256 0 place.len (lit< tt)))
-
   names-fit : (c : Commands) → OfTypes c → AllFit (names p c)
-  names-fit (WriteMemory a place) typed = (bytes-octets place, tt)
+  names-fit (WriteMemory a place) typed = (part-octets p place octets, tt)
   names-fit (Write a v) typed = either-eq AllFit _ _ _ _ (λ h. (little-lt (value_bytes v p) (value-octets v p octets) 4 0, tt)) (λ h. tt)
   names-fit (SetConfig config reset) typed = (byte config typed, tt)
   names-fit (SetSource n) typed = (byte n typed, tt)
@@ -125,11 +118,11 @@ named-fit e s (new made typed meters) = new-fit made.dsp_version typed meters e 
 named-fit e s (receive d frame octets out) = frame-fit frame octets
 named-fit e s (execute d c typed p octets out) = names-fit p octets c typed
 named-fit e s (execute-into d c typed p octets out) = names-fit p octets c typed
-named-fit e s (write-u8 d a value typed) = (byte value typed, tt)
-named-fit e s (write-u16 d a value typed) = (big-octets 2 _, tt)
-named-fit e s (write-u32 d a value typed) = (big-octets 4 _, tt)
-named-fit e s (set-serial d value typed) = (big-octets 4 _, tt)
-named-fit e s (set-timestamp d value typed) = (big-octets 4 _, (big-octets 2 _, tt))
-named-fit e s (store-image d image octets) = (octets, tt)
-named-fit e s (replay d l octets) = frames-fit (frames_in l) (frames-octets l octets)
+named-fit e s (write-u8 a value typed) = (byte value typed, tt)
+named-fit e s (write-u16 a value typed) = (big-octets 2 _, tt)
+named-fit e s (write-u32 a value typed) = (big-octets 4 _, tt)
+named-fit e s (set-serial value typed) = (big-octets 4 _, tt)
+named-fit e s (set-timestamp value typed) = (big-octets 4 _, (big-octets 2 _, tt))
+named-fit e s (store-image image octets) = (octets, tt)
+named-fit e s (replay l octets) = frames-fit (frames_in l) (frames-octets l octets)
 named-fit e s (save out) = tt

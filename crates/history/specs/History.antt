@@ -1,17 +1,21 @@
 -- Histories of a processor, and what they leave at each place. Demand 3: after any run of calls, each byte and word of a processor
 -- holds what the last accepted call naming it put there.
-use Rattle.std.specs.Prelude.{ℕ, ◌-◌, ◌^◌, ◌<◌, ◌≡◌, List, [], ◌∷◌, ◌++◌, length, drop, replicate}
+use Rattle.std.specs.Prelude.{ℕ, ◌-◌, ◌%◌, ◌^◌, ◌<◌, ◌≡◌, List, [], ◌∷◌, ◌++◌, length, drop, replicate}
 use Rattle.std.proofs.Math.Option.{Option, none, some}
-use Rattle.octets.specs.Outcome.{Outcome, accepted, refused, on_accepted}
+use Rattle.octets.specs.Outcome.{Outcome, accepted, refused, on_accepted, and_then}
 use Rattle.octets.specs.Number.{at, Octets, big_bytes}
+use Rattle.octets.specs.Place.{part_of}
+use Rattle.octets.specs.declared.Place.{Place}
+use Rattle.packet.specs.Receipt.{plain_of}
+use Rattle.commands.specs.Decode.{command_of}
 use Rattle.commands.specs.declared.Commands.{Commands}
-use Rattle.facts.specs.Eeprom.{at_serial}
-use Rattle.processor.specs.Memory.{Memory, memory, Store}
-use Rattle.device.specs.Names.{names, frame_names}
+use Rattle.facts.specs.Eeprom.{at_serial, at_timestamp, at_timestamp2x4}
+use Rattle.processor.specs.Memory.{Memory, memory, Store, to_eeprom}
+use Rattle.device.specs.Names.{names}
 use Rattle.processor.specs.Puts.{puts_byte, puts_word}
-use Rattle.processor.specs.Calls.{bytes_from, stamp_from, write_u8, write_u16, write_u32, set_serial, set_timestamp}
+use Rattle.processor.specs.Calls.{write_u8, write_u16, write_u32, set_serial, set_timestamp}
 use Rattle.processor.specs.Create.{bare_of, new_memory, new_of}
-use Rattle.images.specs.Store.{image_names, stored_image}
+use Rattle.images.specs.Store.{stored_image}
 use Rattle.device.specs.Execute.{received_into, executed_into, executed_record}
 use Rattle.processor.specs.declared.Device.{Device}
 use Rattle.saves.specs.Save.{saved_into}
@@ -37,21 +41,20 @@ puts w (in_settings i) = puts_word w i
 -- ---- calls
 -- One for each entry point that is lent a processor's memories, with all else that it is given, the device too where it takes one:
 -- what is read as bytes is bytes, a number that is put is of its type, and the output may be any. A frame that is counted is a frame
--- that is received. The device comes with its lock, open or shut, so that between two calls it may have been opened or shut: who does
--- that is lent no memory.
+-- that is received.
 pub data Call : Type 0 where
   bare : Device → Call
   new : (made : Device) → made.dsp_version < 256 → List ℕ → Call
   receive : Device → (frame : List ℕ) → Octets frame → List ℕ → Call
   execute : Device → (c : Commands) → OfTypes c → (payload : List ℕ) → Octets payload → List ℕ → Call
   execute-into : Device → (c : Commands) → OfTypes c → (payload : List ℕ) → Octets payload → List ℕ → Call
-  write-u8 : Device → ℕ → (value : ℕ) → value < 2 ^ 8 → Call
-  write-u16 : Device → ℕ → (value : ℕ) → value < 2 ^ 16 → Call
-  write-u32 : Device → ℕ → (value : ℕ) → value < 2 ^ 32 → Call
-  set-serial : Device → (value : ℕ) → value < 2 ^ 32 → Call
-  set-timestamp : Device → (value : ℕ) → value < 2 ^ 32 → Call
-  store-image : Device → (image : List ℕ) → Octets image → Call
-  replay : Device → (l : List ℕ) → Octets l → Call
+  write-u8 : ℕ → (value : ℕ) → value < 2 ^ 8 → Call
+  write-u16 : ℕ → (value : ℕ) → value < 2 ^ 16 → Call
+  write-u32 : ℕ → (value : ℕ) → value < 2 ^ 32 → Call
+  set-serial : (value : ℕ) → value < 2 ^ 32 → Call
+  set-timestamp : (value : ℕ) → value < 2 ^ 32 → Call
+  store-image : (image : List ℕ) → Octets image → Call
+  replay : (l : List ℕ) → Octets l → Call
   save : List ℕ → Call
 
 -- that nothing was refused, and the memories: all of an answer that the theorem asks for
@@ -71,13 +74,13 @@ leaves (new made typed meters) m = on_made (new_of made meters m)
 leaves (receive d frame octets out) m = on_both (received_into d frame m out)
 leaves (execute d c typed p octets out) m = on_both (executed_record d c p m out)
 leaves (execute-into d c typed p octets out) m = on_both (executed_into d c p m out)
-leaves (write-u8 d a value typed) m = on_eeprom m (write_u8 d a value)
-leaves (write-u16 d a value typed) m = on_eeprom m (write_u16 d a value)
-leaves (write-u32 d a value typed) m = on_eeprom m (write_u32 d a value)
-leaves (set-serial d value typed) m = on_eeprom m (set_serial d value)
-leaves (set-timestamp d value typed) m = on_eeprom m (set_timestamp d value)
-leaves (store-image d image octets) m = on_eeprom m (stored_image d image)
-leaves (replay d l octets) m = replay_of d m l
+leaves (write-u8 a value typed) m = on_eeprom m (write_u8 a value)
+leaves (write-u16 a value typed) m = on_eeprom m (write_u16 a value)
+leaves (write-u32 a value typed) m = on_eeprom m (write_u32 a value)
+leaves (set-serial value typed) m = on_eeprom m (set_serial value)
+leaves (set-timestamp value typed) m = on_eeprom m (set_timestamp value)
+leaves (store-image image octets) m = on_eeprom m (stored_image image)
+leaves (replay l octets) m = replay_of m l
 leaves (save out) m = (on_accepted (λ n. tt) (saved_into m out).0, m)
 
 abbrev pub answer : Call → Memory → Outcome Unit
@@ -86,7 +89,14 @@ answer c m = (leaves c m).0
 abbrev pub step : Call → Memory → Memory
 step c m = (leaves c m).1
 
--- ---- what a call names, by what the call is given, and by no device: the definitions on which its lock rests too
+-- ---- what a call names, by plain receipt, `command_of` and `names`: by what the call is given, and by no device
+abbrev pub if_read : Outcome (List Store) → List Store
+if_read (accepted ws) = ws
+if_read (refused k) = []
+
+abbrev pub frame_names : List ℕ → List Store
+frame_names frame = if_read (and_then (plain_of frame) (λ (part : Place). on_accepted (names (part_of frame part)) (command_of (part_of frame part))))
+
 abbrev pub frames_names : List (List ℕ) → List Store
 frames_names [] = []
 frames_names (frame ∷ frames) = frame_names frame ++ frames_names frames
@@ -108,15 +118,15 @@ named e s (receive d frame octets out) = frame_names frame
 named e s (execute d c typed p octets out) = names p c
 named e s (execute-into d c typed p octets out) = names p c
 -- "the serial, timestamp and write_eeprom calls name theirs"
-named e s (write-u8 d a value typed) = bytes_from a (value ∷ [])
-named e s (write-u16 d a value typed) = bytes_from a (big_bytes 2 value)
-named e s (write-u32 d a value typed) = bytes_from a (big_bytes 4 value)
-named e s (set-serial d value typed) = bytes_from at_serial (big_bytes 4 (value - 900000))
-named e s (set-timestamp d value typed) = stamp_from value
+named e s (write-u8 a value typed) = to_eeprom a (value ∷ []) ∷ []
+named e s (write-u16 a value typed) = to_eeprom a (big_bytes 2 value) ∷ []
+named e s (write-u32 a value typed) = to_eeprom a (big_bytes 4 value) ∷ []
+named e s (set-serial value typed) = to_eeprom at_serial (big_bytes 4 (value - 900000)) ∷ []
+named e s (set-timestamp value typed) = to_eeprom at_timestamp (big_bytes 4 value) ∷ to_eeprom at_timestamp2x4 (big_bytes 2 (value % 2 ^ 16)) ∷ []
 -- "Storing the image in a processor is one more call, and it names all E bytes."
-named e s (store-image d image octets) = image_names image
+named e s (store-image image octets) = to_eeprom 0 image ∷ []
 -- "in demand 3 each of its frames counts as one accepted call in turn"
-named e s (replay d l octets) = frames_names (frames_in l)
+named e s (replay l octets) = frames_names (frames_in l)
 named e s (save out) = []
 
 -- an accepted call's; a refused one names nothing

@@ -1,5 +1,4 @@
 pub mod Types
 pub mod History
 pub mod Restores
-pub mod Locked
 pub mod Tallied

@@ -2,7 +2,6 @@
 use Rattle.std.specs.Prelude.{ℕ, ◌≤◌, ◌≡◌, List, length, take}
 use Rattle.octets.specs.Outcome.{accepted}
 use Rattle.processor.specs.Memory.{Memory}
-use Rattle.processor.specs.declared.Device.{Device}
 use Rattle.saves.specs.Save.{room, saved_into}
 use Rattle.saves.specs.Replay.{replay_of}
 
@@ -17,8 +16,7 @@ SameSizes m m' = (length m.eeprom ≡ length m'.eeprom) × (length m.settings �
 abbrev pub room_for : Memory → ℕ
 room_for m = room (length m.eeprom) (length m.settings)
 
--- the one's save is written to this output, and what was written there is accepted by the other, a device with this record, which is then
--- as the one
-pub record Restored (d : Device) (one other : Memory) (out : List ℕ) : Type 0 where
+-- the one's save is written to this output, and what was written there is accepted by the other, which is then as the one
+pub record Restored (one other : Memory) (out : List ℕ) : Type 0 where
   pub is_written : (saved_into one out).0 ≡ accepted (room_for one)
-  pub is_replayed : replay_of d other (take (room_for one) (saved_into one out).1) ≡ (accepted tt, one)
+  pub is_replayed : replay_of other (take (room_for one) (saved_into one out).1) ≡ (accepted tt, one)

@@ -12,7 +12,7 @@ use Rattle.images.proofs.import.import.Reads as import
 pub export-fixed : Fixes (Written × List ℕ) export.Post (λ κs answer left. (answer, left.1.0.now))
 export-fixed κs args a b x y p q = both written written_once (agree p q)
 
-pub store-image-fixed : Fixes (Done × List ℕ) store-image.Post (λ κs answer left. (answer, left.1.1.0.now))
+pub store-image-fixed : Fixes (Done × List ℕ) store-image.Post (λ κs answer left. (answer, left.1.0.now))
 store-image-fixed κs args a b x y p q = both done done-once (agree p q)
 
 pub import-fixed : Fixes (Done × List ℕ) import.Post (λ κs answer left. (answer, left.1.0.now))

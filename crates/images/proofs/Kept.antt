@@ -1,13 +1,11 @@
 -- Demand 1: a refusal changes neither the image nor the EEPROM.
 use Rattle.std.proofs.Common.{ℕ, List, length, refl}
 use Rattle.octets.specs.Outcome.{Outcome, accepted, refused}
-use Rattle.octets.proofs.Choosing.{either_lt, either-eq, either-pick, accepted-refused}
-use Rattle.processor.specs.Lock.{is_locked}
-use Rattle.processor.specs.declared.Device.{Device}
+use Rattle.octets.proofs.Choosing.{either_lt, either-eq, accepted-refused}
 use Rattle.processor.proofs.Refusals.{KeptAlone}
 use Rattle.intel_hex.specs.Format.{HexRow}
 use Rattle.images.specs.Import.{judged_for, filled, imported_into}
-use Rattle.images.specs.Store.{image_names, stored_image}
+use Rattle.images.specs.Store.{stored_image}
 
 pub imported-kept : (text image : List ℕ) → KeptAlone image (imported_into text image)
 unfolding imported_into
@@ -17,7 +15,7 @@ imported-kept text image = go (judged_for (length image) text)
     go (accepted rows) = λ k g. absurd (accepted-refused g)
     go (refused j) = λ k g. refl
 
-pub stored-kept : (d : Device) (image eeprom : List ℕ) → KeptAlone eeprom (stored_image d image eeprom)
-stored-kept d image eeprom =
+pub stored-kept : (image eeprom : List ℕ) → KeptAlone eeprom (stored_image image eeprom)
+stored-kept image eeprom =
     either_lt (KeptAlone eeprom) _ _ _ _ (λ h k g. refl)
-    (λ h. either-eq (KeptAlone eeprom) _ _ _ _ (λ j. either-pick (KeptAlone eeprom) (is_locked d (image_names image)) _ _ (λ l k g. refl) (λ l k g. absurd (accepted-refused g))) (λ j k g. refl))
+    (λ h. either-eq (KeptAlone eeprom) _ _ _ _ (λ j k g. absurd (accepted-refused g)) (λ j k g. refl))

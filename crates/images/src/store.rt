@@ -4,21 +4,17 @@ ghost use Rattle.octets.specs.Outcome.{done};
 ghost use Rattle.images.specs.Store.{stored_image};
 
 use octets::{Done, refusal};
-use processor::lock::is_locked;
-use processor::{Device, LARGEST};
+use processor::LARGEST;
 
-// Stores an image of as many bytes as the EEPROM has, on a device whose lock is open.
-pub fn store_image(device: Device, image: &[u8], eeprom: &mut [u8]) -> Done
-    ensures { (done result, eeprom.new) ≡ stored_image device image.now eeprom.old }
+// Stores an image of as many bytes as the EEPROM has.
+pub fn store_image(image: &[u8], eeprom: &mut [u8]) -> Done
+    ensures { (done result, eeprom.new) ≡ stored_image image.now eeprom.old }
 {
     if LARGEST < eeprom.len() {
         return Done::Refused(refusal::WRONG_SIZES);
     }
     if image.len() != eeprom.len() {
         return Done::Refused(refusal::WRONG_SIZES);
-    }
-    if is_locked(device, 0 < image.len()) {
-        return Done::Refused(refusal::LOCKED);
     }
     octets::put(image, eeprom);
     Done::Done

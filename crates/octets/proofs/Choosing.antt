@@ -3,12 +3,11 @@
 use Prim.Native.Nat.{ℕ, ◌<◌, ◌≤◌}
 use mathlib.Core.Path.{◌≡◌, refl, sym, subst}
 use mathlib.Core.Logic.{◌⊎◌, inl, inr}
-use mathlib.Core.Bool.{Bool, true, false}
 use native.Mathlib.Decide.{dec_lt, ℕ_discrete}
 use native.Mathlib.Omega.{arith}
 use borrow.Author.Tests.{le-ltb, lt-ltb, eq-eqb, ne_eqb}
 use borrow.Author.Rules.{rules}
-use Rattle.octets.specs.Choice.{pick, if_lt, if_eq}
+use Rattle.octets.specs.Choice.{if_lt, if_eq}
 use Rattle.octets.specs.Outcome.{Outcome, accepted, refused}
 
 module _ {A : Type 0} (a b : ℕ) (x y r : A) where
@@ -53,10 +52,6 @@ module _ {A : Type 0} (P : A → Type 0) (a b : ℕ) (x y : A) where
       go : Dec (a ≡ b) → P (if_eq a b x y)
       go (yes h) = subst P (same a b x y x h refl) (f h)
       go (no h) = subst P (other a b x y y h refl) (g h)
-
-pub either-pick : {A : Type 0} (P : A → Type 0) (b : Bool) (x y : A) → (b ≡ true → P x) → (b ≡ false → P y) → P (pick b x y)
-either-pick P true x y f g = f refl
-either-pick P false x y f g = g refl
 
 -- through a function
 module _ {A B : Type 0} (f : A → B) (a b : ℕ) (x y : A) where

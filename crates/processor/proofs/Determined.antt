@@ -21,9 +21,6 @@ use Rattle.processor.proofs.eeprom.write_eeprom_u32.Reads as write-u32
 use Rattle.processor.proofs.eeprom.set_serial.Reads as set-serial
 use Rattle.processor.proofs.eeprom.set_timestamp.Reads as set-timestamp
 use Rattle.processor.proofs.create.default.Reads as device-default
-use Rattle.processor.proofs.lock.open.Reads as lock-open
-use Rattle.processor.proofs.lock.shut.Reads as lock-shut
-use Rattle.processor.proofs.lock.is_locked.Reads as is-locked
 use Rattle.processor.specs.declared.Device.{Device}
 
 -- an answer is known by its reading
@@ -42,19 +39,19 @@ bare-fixed κs args a b x y p q = both made made-once (agree p q)
 pub new-fixed : Fixes (Made × Memory) new.Post (λ κs answer left. (answer, memory left.1.1.1.1.1.0.now left.1.1.1.1.1.1.0.now))
 new-fixed κs args a b x y p q = both made made-once (agree p q)
 
-pub write-u8-fixed : Fixes (Done × List ℕ) write-u8.Post (λ κs answer left. (answer, left.1.1.1.0.now))
+pub write-u8-fixed : Fixes (Done × List ℕ) write-u8.Post (λ κs answer left. (answer, left.1.1.0.now))
 write-u8-fixed κs args a b x y p q = both done done-once (agree p q)
 
-pub write-u16-fixed : Fixes (Done × List ℕ) write-u16.Post (λ κs answer left. (answer, left.1.1.1.0.now))
+pub write-u16-fixed : Fixes (Done × List ℕ) write-u16.Post (λ κs answer left. (answer, left.1.1.0.now))
 write-u16-fixed κs args a b x y p q = both done done-once (agree p q)
 
-pub write-u32-fixed : Fixes (Done × List ℕ) write-u32.Post (λ κs answer left. (answer, left.1.1.1.0.now))
+pub write-u32-fixed : Fixes (Done × List ℕ) write-u32.Post (λ κs answer left. (answer, left.1.1.0.now))
 write-u32-fixed κs args a b x y p q = both done done-once (agree p q)
 
-pub set-serial-fixed : Fixes (Done × List ℕ) set-serial.Post (λ κs answer left. (answer, left.1.1.0.now))
+pub set-serial-fixed : Fixes (Done × List ℕ) set-serial.Post (λ κs answer left. (answer, left.1.0.now))
 set-serial-fixed κs args a b x y p q = both done done-once (agree p q)
 
-pub set-timestamp-fixed : Fixes (Done × List ℕ) set-timestamp.Post (λ κs answer left. (answer, left.1.1.0.now))
+pub set-timestamp-fixed : Fixes (Done × List ℕ) set-timestamp.Post (λ κs answer left. (answer, left.1.0.now))
 set-timestamp-fixed κs args a b x y p q = both done done-once (agree p q)
 
 pub store-fixed : Fixes Memory store.Post (λ κs answer left. memory left.1.1.0.now left.1.1.1.0.now)
@@ -62,12 +59,3 @@ store-fixed κs args a b x y p q = agree p q
 
 pub device-default-fixed : Fixes Device device-default.Post (λ κs answer left. answer)
 device-default-fixed κs args a b x y p q = agree p q
-
-pub lock-open-fixed : Fixes Device lock-open.Post (λ κs answer left. answer)
-lock-open-fixed κs args a b x y p q = agree p q
-
-pub lock-shut-fixed : Fixes Device lock-shut.Post (λ κs answer left. answer)
-lock-shut-fixed κs args a b x y p q = agree p q
-
-pub is-locked-fixed : Fixes Bool is-locked.Post (λ κs answer left. answer)
-is-locked-fixed κs args a b x y p q = agree p q

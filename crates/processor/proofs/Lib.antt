@@ -1,4 +1,3 @@
-pub mod Locks
 pub mod Written
 pub mod Stores
 pub mod Fills

@@ -6,10 +6,9 @@ use mathlib.Core.List.{List}
 use lib.ListN.{length}
 use Rattle.octets.specs.Outcome.{Outcome, accepted, refused}
 use Rattle.octets.specs.Choice.{pick}
-use Rattle.octets.proofs.Choosing.{either_lt, either-eq, either-pick, accepted-refused}
+use Rattle.octets.proofs.Choosing.{either_lt, either-eq, accepted-refused}
 use Rattle.processor.specs.Memory.{Memory, oversized}
-use Rattle.processor.specs.Calls.{bytes_from, write_bytes, stamp_from, set_timestamp}
-use Rattle.processor.specs.Lock.{is_locked}
+use Rattle.processor.specs.Calls.{write_bytes, set_timestamp}
 use Rattle.processor.specs.Create.{bare_of, bare_memory, new_of, new_memory, any_beyond}
 use Rattle.processor.specs.declared.Device.{Device}
 
@@ -17,17 +16,14 @@ use Rattle.processor.specs.declared.Device.{Device}
 abbrev pub KeptAlone : {A B : Type 0} → B → Outcome A × B → Type 0
 KeptAlone before left = (k : ℕ) → left.0 ≡ refused k → left.1 ≡ before
 
-pub written-kept : (d : Device) (a : ℕ) (bytes e : List ℕ) → KeptAlone e (write_bytes d a bytes e)
-written-kept d a bytes e =
-    either_lt (KeptAlone e) _ _ _ _ (λ h k g. refl)
-    (λ h. either-pick (KeptAlone e) (is_locked d (bytes_from a bytes)) _ _ (λ l k g. refl)
-    (λ l. either_lt (KeptAlone e) _ _ _ _ (λ j k g. refl) (λ j k g. absurd (accepted-refused g))))
+pub written-kept : (a : ℕ) (bytes e : List ℕ) → KeptAlone e (write_bytes a bytes e)
+written-kept a bytes e =
+    either_lt (KeptAlone e) _ _ _ _ (λ h k g. refl) (λ h. either_lt (KeptAlone e) _ _ _ _ (λ j k g. refl) (λ j k g. absurd (accepted-refused g)))
 
-pub stamped-kept : (d : Device) (value : ℕ) (e : List ℕ) → KeptAlone e (set_timestamp d value e)
-stamped-kept d value e =
+pub stamped-kept : (value : ℕ) (e : List ℕ) → KeptAlone e (set_timestamp value e)
+stamped-kept value e =
     either_lt (KeptAlone e) _ _ _ _ (λ h k g. refl)
-    (λ h. either-pick (KeptAlone e) (is_locked d (stamp_from value)) _ _ (λ l k g. refl)
-    (λ l. either_lt (KeptAlone e) _ _ _ _ (λ j k g. refl) (λ j. either_lt (KeptAlone e) _ _ _ _ (λ i k g. refl) (λ i k g. absurd (accepted-refused g)))))
+    (λ h. either_lt (KeptAlone e) _ _ _ _ (λ j k g. refl) (λ j. either_lt (KeptAlone e) _ _ _ _ (λ i k g. refl) (λ i k g. absurd (accepted-refused g))))
 
 pub bare-kept : (d : Device) (m : Memory) → KeptAlone m (bare_of d m)
 bare-kept d m = go (oversized m)

@@ -15,10 +15,10 @@ abbrev pub made : Made → Outcome Device
 made (Is d) = accepted d
 made (Refused k) = refused k
 
--- "Bare and new are given hw_id, dsp_version and kind; firmware is 1.13." The lock is "open in a new or bare device".
+-- "Bare and new are given hw_id, dsp_version and kind; firmware is 1.13."
 abbrev pub device_of : ℕ → ℕ → DeviceKind → ℕ → Device
 device_of hw dsp kind taps =
-    record { hw_id = hw; dsp_version = dsp; fw_major = 1; fw_minor = 13; kind = kind; fir_max_taps = taps; shut = false }
+    record { hw_id = hw; dsp_version = dsp; fw_major = 1; fw_minor = 13; kind = kind; fir_max_taps = taps }
 
 -- "A bare device holds 0xFF and 0."
 abbrev pub bare_memory : Memory → Memory

@@ -83,7 +83,6 @@ fn device_of(hw_id: u8, dsp_version: u8, kind: DeviceKind, fir_max_taps: u16) ->
         fw_minor: 13,
         kind,
         fir_max_taps,
-        shut: false,
     }
 }
 

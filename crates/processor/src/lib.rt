@@ -8,9 +8,8 @@ use facts::probe::DeviceKind;
 pub mod change;
 pub mod create;
 pub mod eeprom;
-pub mod lock;
 
-// What a device is beside its memories. While it is shut, what names a byte or word is refused.
+// What a device is beside its memories.
 #[derive(Drop)]
 pub struct Device {
     pub hw_id: u8,
@@ -19,7 +18,6 @@ pub struct Device {
     pub fw_minor: u8,
     pub kind: DeviceKind,
     pub fir_max_taps: u16,
-    pub shut: bool,
 }
 
 // The most bytes or words that a memory has.

@@ -13,5 +13,5 @@ use Rattle.saves.proofs.replay.replay.Reads as replay
 pub save-fixed : Fixes (Written × List ℕ) save.Post (λ κs answer left. (answer, left.1.1.0.now))
 save-fixed κs args a b x y p q = both written written_once (agree p q)
 
-pub replay-fixed : Fixes (Done × Memory) replay.Post (λ κs answer left. (answer, memory left.1.0.now left.1.1.0.now))
+pub replay-fixed : Fixes (Done × Memory) replay.Post (λ κs answer left. (answer, memory left.0.now left.1.0.now))
 replay-fixed κs args a b x y p q = both done done-once (agree p q)

@@ -1,4 +1,4 @@
--- A save replayed on memories of the same sizes, of a device that is open, is accepted and leaves what was saved.
+-- A save replayed on memories of the same sizes is accepted and leaves what was saved.
 use Prim.Native.Nat.{ℕ, zero, suc, ◌+◌, ◌^◌, ◌≤◌, ◌<◌}
 use mathlib.Core.Path.{◌≡◌, refl, sym, ◌∙◌}
 use mathlib.Core.Bool.{false}
@@ -13,11 +13,10 @@ use Rattle.octets.specs.Number.{at, big_at, big_bytes}
 use Rattle.octets.proofs.Choosing.{above, same}
 use Rattle.octets.proofs.InBytes.{big-behind, big-back}
 use Rattle.processor.specs.Memory.{Memory, too_large}
-use Rattle.processor.specs.declared.Device.{Device}
 use Rattle.saves.specs.Save.{save_field, shape_field, end_field, blocks, fields_for, save_of, room}
 use Rattle.streams.specs.Stream.{length_of, shape, shape_of, end_of}
 use Rattle.streams.specs.Judge.{fields_mean, checked_for}
-use Rattle.saves.specs.Replay.{replay_open, replay_of}
+use Rattle.saves.specs.Replay.{replay_of}
 use Rattle.saves.specs.Writes.{Words, each, writes_for}
 use Rattle.saves.proofs.Saved.{length-shape, length-save}
 use Rattle.saves.proofs.Fields.{field-length, save-stream}
@@ -71,7 +70,6 @@ module _ (m : Memory) (few : length m.eeprom ≤ 65536) (words-few : length m.se
       let read : shape_of (shape_field e s ++ fields_for m) ≡ accepted (shape e s) = shape-read e s (fields_for m) few words-few in
       rw sized (sym (above _ _ _ _ _ (omega (arith, length-save m)) (rw read (same _ _ _ _ _ refl (same _ _ _ _ _ refl (rw (behind, fields-mean)))))))
 
-  -- on a device whose lock is open
-  pub restored : (d : Device) → d.shut ≡ false → (m' : Memory) → length m'.eeprom ≡ e → length m'.settings ≡ s → replay_of d m' (save_of m) ≡ (accepted tt, m)
-  unfolding replay_open
-  restored d is_open m' h g = rw (h, g, sized, is_open, save-checked, stored-whole m m' h g)
+  pub restored : (m' : Memory) → length m'.eeprom ≡ e → length m'.settings ≡ s → replay_of m' (save_of m) ≡ (accepted tt, m)
+  unfolding replay_of
+  restored m' h g = rw (h, g, save-checked, stored-whole m m' h g)

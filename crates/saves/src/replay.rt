@@ -4,29 +4,16 @@ ghost use Rattle.processor.specs.Memory.{memory, store as store_all};
 ghost use Rattle.octets.specs.Outcome.{done};
 ghost use Rattle.streams.specs.Stream.{stream_of};
 ghost use Rattle.streams.specs.Inside.{frames_write, frame_writes};
-ghost use Rattle.saves.specs.Replay.{replay_open, replay_of};
+ghost use Rattle.saves.specs.Replay.{replay_of};
 
-use octets::{Done, refusal};
-use processor::{Device, too_large};
+use octets::Done;
 use streams::judge::check_for;
 use streams::means::{Meant, meaning_of};
 use streams::stream;
 
-// Stores what a save's frames write, in order, on a device whose lock is open.
-pub fn replay(device: Device, eeprom: &mut [u8], settings: &mut [u32], save: &[u8]) -> Done
-    ensures { (done result, memory eeprom.new settings.new) ≡ replay_of device (memory eeprom.old settings.old) save.now }
-{
-    if too_large(eeprom.len(), settings.len()) {
-        return Done::Refused(refusal::WRONG_SIZES);
-    }
-    if device.shut {
-        return Done::Refused(refusal::LOCKED);
-    }
-    replay_open(eeprom, settings, save)
-}
-
-fn replay_open(eeprom: &mut [u8], settings: &mut [u32], save: &[u8]) -> Done
-    ensures { (done result, memory eeprom.new settings.new) ≡ replay_open (memory eeprom.old settings.old) save.now }
+// Stores what a save's frames write, in order.
+pub fn replay(eeprom: &mut [u8], settings: &mut [u32], save: &[u8]) -> Done
+    ensures { (done result, memory eeprom.new settings.new) ≡ replay_of (memory eeprom.old settings.old) save.now }
 {
     match check_for(eeprom.len(), settings.len(), save) {
         Done::Done => {

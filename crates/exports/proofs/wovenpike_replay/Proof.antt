@@ -16,7 +16,6 @@ wovenpike-replay-spec =
     tie.close
     (tie.spec
     (λ c κs. search rules)
-    (λ c κs. search rules)
     (λ c. search rules)
     (λ c. search rules)
     (λ c. search rules)

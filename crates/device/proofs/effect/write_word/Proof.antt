@@ -10,22 +10,21 @@ use borrow.Author.Tests.{eqb-true, eqb-false}
 use Rattle.octets.proofs.Choosing.{below, above, same, other}
 use Rattle.fields.specs.Value.{value_bytes, value_outside}
 use Rattle.fields.specs.declared.value.Value.{Value}
-use Rattle.device.specs.Names.{value_length}
-use Rattle.device.proofs.Words.{value-length}
 use borrow.Author.Rules.{rules}
 use Rattle.device.proofs.effect.write_word.Statement.{statement}
 use Rattle.device.proofs.effect.write_word.Tie as tie
 
 -- what the two tests tell of the value
-module _ (v : Value) (p : List ℕ) {out four : Bool} (o : out ≡ value_outside v (length p)) (n : out ≡ false) (f : four ≡ eqb (value_length v) 4) where
+module _ (v : Value) (p : List ℕ) {out four : Bool} (o : out ≡ value_outside v (length p)) (n : out ≡ false)
+    (f : (p : List ℕ) → value_outside v (length p) ≡ false → four ≡ eqb (length (value_bytes v p)) 4) where
   inside : value_outside v (length p) ≡ false
   inside = sym o ∙ n
 
   is-four : four ≡ true → length (value_bytes v p) ≡ 4
-  is-four t = value-length v p inside ∙ eqb-true _ _ (sym f ∙ t)
+  is-four t = eqb-true _ _ (sym (f p inside) ∙ t)
 
   not-four : four ≡ false → length (value_bytes v p) ≡ 4 → ⊥
-  not-four t h = eqb-false _ _ (sym f ∙ t) (sym (value-length v p inside) ∙ h)
+  not-four t = eqb-false _ _ (sym (f p inside) ∙ t)
 
 returns : tie.Need-returns
 returns c = (rw (← c.before.is-outside.ensures, c.if1.true), omega arith)

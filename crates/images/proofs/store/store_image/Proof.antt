@@ -12,15 +12,11 @@ returns-2 : tie.Need-returns-2
 returns-2 c = search tests
 
 returns-3 : tie.Need-returns-3
-returns-3 c = above _ _ _ _ _ (omega arith) (same _ _ _ _ _ (omega arith) (rw (← c.before.is-locked.ensures, c.if3.true)))
-
-returns-4 : tie.Need-returns-4
-returns-4 c =
+returns-3 c =
     let put = c.before.before in
-    let test = put.before.before in
-    let a = test.before.before.before.before.before.before.args in
+    let a = put.before.before.before.before.before.before.args in
     let whole = put-over a.image.now a.eeprom.now put.put.ensures (omega arith) ∙ over-whole a.image.now a.eeprom.now (omega arith) in
-    rw (whole, ← test.before.is-locked.ensures, test.if3.false) (above _ _ _ _ _ (omega arith) (same _ _ _ _ _ (omega arith) refl))
+    rw whole (above _ _ _ _ _ (omega arith) (same _ _ _ _ _ (omega arith) refl))
 
 pub store-image-spec : {M : Type 1} → statement M
-store-image-spec = tie.close (tie.spec returns returns-2 (λ c κs. search rules) returns-3 (λ c κs. search rules) (λ c. search rules) returns-4)
+store-image-spec = tie.close (tie.spec returns returns-2 (λ c κs. search rules) (λ c. search rules) returns-3)

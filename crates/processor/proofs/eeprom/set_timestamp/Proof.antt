@@ -1,9 +1,7 @@
--- Sized, open, and both places are within, once the higher is.
+-- Both places are within, once the higher is.
 use Rattle.octets.proofs.Choosing.{below, above}
 use mathlib.Core.Path.{refl}
 use native.Mathlib.Omega.{arith}
-use Rattle.processor.specs.Calls.{stamp_from}
-use Rattle.processor.proofs.Locks.{stamp-names, shut-locked, open-unlocked}
 use Rattle.processor.proofs.Written.{stamped}
 use borrow.Author.Rules.{rules}
 use Rattle.processor.proofs.eeprom.set_timestamp.Statement.{statement}
@@ -13,18 +11,15 @@ returns : tie.Need-returns
 returns c = below _ _ _ _ _ (omega arith) refl
 
 returns-2 : tie.Need-returns-2
-returns-2 c = let a = c.before.before.before.args in above _ _ _ _ _ (omega arith) (rw (shut-locked a.device (stamp_from a.value) c.if2.true (stamp-names a.value)))
+returns-2 c = above _ _ _ _ _ (omega arith) (below _ _ _ _ _ (omega arith) refl)
 
 returns-3 : tie.Need-returns-3
-returns-3 c = let a = c.before.before.before.before.args in rw (open-unlocked a.device (stamp_from a.value) c.before.if2.false) (above _ _ _ _ _ (omega arith) (below _ _ _ _ _ (omega arith) refl))
-
-returns-4 : tie.Need-returns-4
-returns-4 c =
+returns-3 c =
     let second = c.before.before in
     let first = second.before.before.before.before.before.before in
     let sized = first.before.before.before.before in
-    let a = sized.before.before.before.before.args in
-    stamped a.device a.value a.eeprom.now sized.before.before.if1.false (open-unlocked a.device (stamp_from a.value) sized.before.if2.false) (omega (arith, sized.if3.false))
+    let a = sized.before.before.before.args in
+    stamped a.value a.eeprom.now sized.before.if1.false (omega (arith, sized.if2.false))
     (rw first.before.before.before.big-bytes32.ensures at first.put-at.ensures)
     (rw second.before.before.before.big-bytes16.ensures at second.put-at2.ensures)
 
@@ -33,11 +28,10 @@ set-timestamp-spec =
     tie.close
     (tie.spec
     returns
+    (λ c. search rules)
+    (λ c. search rules)
     returns-2
     (λ c. search rules)
-    (λ c. search rules)
-    returns-3
-    (λ c. search rules)
     (λ c κs. search rules)
     (λ c. search rules)
     (λ c. search rules)
@@ -47,4 +41,4 @@ set-timestamp-spec =
     (λ c. search rules)
     (λ c κs. search rules)
     (λ c. search rules)
-    returns-4)
+    returns-3)
