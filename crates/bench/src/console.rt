@@ -52,7 +52,7 @@ fn serve(input: &mut [u8], eeprom: &mut [u8], settings: &mut [u32], kept: &mut [
 
 // How much of the input is used and how much there is, whether the start of its line is dropped, and
 // whether it has ended.
-#[derive(Drop)]
+#[derive(Clone, Copy)]
 struct Lines {
     used: usize,
     have: usize,

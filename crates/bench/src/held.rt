@@ -23,7 +23,7 @@ const REFUSED: usize = 10;
 const REQUESTS: usize = 11;
 
 // An answer, and what is held after it.
-#[derive(Drop)]
+#[derive(Clone, Copy)]
 pub struct Asked {
     pub answer: Answer,
     pub held: Answer,

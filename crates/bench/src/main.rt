@@ -1,6 +1,8 @@
 // The tester's console: a request a line on standard input, an answer a line on standard output.
 // docs/BENCH.md describes its language. Nothing is decided here but how a line is read and how an
 // answer is written: every answer is a library's.
+#![tactic(auto)]
+
 mod console;
 mod files;
 mod held;

@@ -1,5 +1,7 @@
 // The bench's answers in words, by their rows of the table. Each word has a space behind it; the last one's
 // becomes the line end.
+#![tactic(auto)]
+
 ghost use Rattle.std.specs.Prelude.{◌≤◌, length};
 
 use bench_words::read::*;
@@ -12,7 +14,7 @@ use octets::{Place, Written};
 const MOST_WORDS: usize = 64;
 
 // How far an answer is put: where in its row, how many of its numbers, and where its text ends.
-#[derive(Drop)]
+#[derive(Clone, Copy)]
 struct Putting {
     walk: Walk,
     count: usize,

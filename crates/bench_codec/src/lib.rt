@@ -1,4 +1,6 @@
 // The bench's requests that need no processor, by the numbers of their verbs: each calls its crate.
+#![tactic(auto)]
+
 mod on_commands;
 mod on_facts;
 mod on_fields;

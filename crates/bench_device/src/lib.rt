@@ -1,5 +1,7 @@
 // The bench's requests over one processor with its memories, over a save and over an image, by the
 // numbers of their verbs. What is held of the processor is the numbers that its making answers.
+#![tactic(auto)]
+
 mod hex;
 mod look;
 mod make;

@@ -1,11 +1,13 @@
 // The words of the bench: one table of its verbs and names, and what is read and answered by it.
+#![tactic(auto)]
+
 pub mod read;
 pub mod table;
 
 use octets::{Done, Place, Written};
 
 // The first numbers of a request's words, one behind the other. Those of a record begin with c.
-#[derive(Drop)]
+#[derive(Clone, Copy)]
 pub struct Numbers {
     pub a: u32,
     pub b: u32,

@@ -35,7 +35,7 @@ const CR_LINE: u32 = 13;
 // where the words of its answer stand in the table, and how much output it asks for. And how far it is
 // read: where in its row and in its line, which of its words is next, where that one's bytes go, and how
 // many numbers there are.
-#[derive(Drop)]
+#[derive(Clone, Copy)]
 pub struct Words {
     pub verb: usize,
     pub answer: usize,
@@ -192,7 +192,7 @@ fn behind_word(mut words: Words, letter: u8, got: Got, end: usize) -> Words {
 }
 
 // What a word is by its letter: a number, and where it is a name, where the words of its row begin.
-#[derive(Drop)]
+#[derive(Clone, Copy)]
 struct Got {
     good: bool,
     number: u32,

@@ -191,7 +191,7 @@ i 18 two rows of the text name one byte
 ";
 
 // A name's number in its list, its place, and where the words of its row begin.
-#[derive(Drop)]
+#[derive(Clone, Copy)]
 pub struct Row {
     pub number: usize,
     pub name: Place,
@@ -264,7 +264,7 @@ pub fn same(a: &[u8], b: &[u8]) -> bool {
 
 // A walk through a row and, at a name, through that one's: the word that it is at, of no length at
 // its end, what it has passed of its row, and of the rows in which that stands.
-#[derive(Drop)]
+#[derive(Clone, Copy)]
 pub struct Walk {
     pub word: Place,
     pub passed: usize,

@@ -10,14 +10,14 @@ use numbers::gain::Gain;
 use octets::{Place, number, refusal};
 
 // A command that was read, or the number of the refusal.
-#[derive(Drop)]
+#[derive(Clone, Copy)]
 pub enum ReadCommand {
     Command(Commands),
     Refused(u8),
 }
 
 // The same, with the values that stand beside a command.
-#[derive(Drop)]
+#[derive(Clone, Copy)]
 pub struct Decoded {
     pub answer: ReadCommand,
     pub values: [Coefficient; 5],

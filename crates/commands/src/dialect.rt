@@ -7,13 +7,13 @@ use fields::addr::Addr;
 use fields::value::Value;
 use numbers::fixed_point::FixedPoint;
 
-#[derive(Drop)]
+#[derive(Clone, Copy)]
 pub enum AddrEncoding {
     AddrLen2,
     AddrLen3,
 }
 
-#[derive(Drop)]
+#[derive(Clone, Copy)]
 pub enum FloatEncoding {
     Float32LE,
     FixedPoint,
@@ -35,7 +35,7 @@ impl FloatEncoding {
     }
 }
 
-#[derive(Drop)]
+#[derive(Clone, Copy)]
 pub struct Dialect {
     // Length of addresses sent, 3 or 2
     pub addr_encoding: AddrEncoding,

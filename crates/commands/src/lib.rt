@@ -1,4 +1,6 @@
 // Commands sent to the processor. (commands.rs, dialect.rs)
+#![tactic(auto)]
+
 ghost use Rattle.std.specs.Prelude.{◌≡◌};
 ghost use Rattle.commands.specs.Mute.{write_ints, read_floats_max, mute_of};
 
@@ -19,14 +21,14 @@ pub fn read_floats_max() -> usize
 }
 
 // As many floats as count says, from start on in lent bytes, of four little-endian bytes each.
-#[derive(Drop)]
+#[derive(Clone, Copy)]
 pub struct FirData {
     pub start: usize,
     pub count: usize,
 }
 
 // What a mux is switched to. A struct, so that the definitions know its numbers by their names.
-#[derive(Drop)]
+#[derive(Clone, Copy)]
 pub struct Mux {
     // start address
     pub addr: Addr,
@@ -39,7 +41,7 @@ pub struct Mux {
 
 // A payload and floats stand at a place in lent bytes. The five values of WriteBiquad stand beside the
 // command.
-#[derive(Drop)]
+#[derive(Clone, Copy)]
 pub enum Commands {
     // 0x31: Read hardware id
     ReadHardwareId,

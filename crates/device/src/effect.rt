@@ -22,14 +22,14 @@ use views::floats::FloatView;
 use views::memory::MemoryView;
 
 // What would be done: the answer, and at most one change of the memories.
-#[derive(Drop)]
+#[derive(Clone, Copy)]
 pub struct Plan {
     pub response: Responses,
     pub change: Change,
 }
 
 // What a command does, or the number of its refusal.
-#[derive(Drop)]
+#[derive(Clone, Copy)]
 pub enum Decided {
     Does(Plan),
     Refused(u8),

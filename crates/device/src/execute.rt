@@ -21,7 +21,7 @@ use responses::Responses;
 const LONGEST_PAYLOAD: usize = 1020;
 
 // The answer as a record, or the number of the refusal.
-#[derive(Drop)]
+#[derive(Clone, Copy)]
 pub enum Executed {
     Response(Responses),
     Refused(u8),

@@ -1,6 +1,8 @@
 // For callers in C or Rust, which lend a pointer and a length for each slice: the numbers, patterns in
 // and patterns out; frames, a save and a replay, each of which answers 0 or the number of its refusal.
 // What compare/rust/all, compare/paper/large and compare/speed link.
+#![tactic(auto)]
+
 ghost use Rattle.std.specs.Prelude.{◌≡◌, length};
 ghost use Rattle.octets.specs.Outcome.{written};
 ghost use Rattle.octets.specs.Place.{place_at};

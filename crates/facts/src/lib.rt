@@ -1,5 +1,7 @@
 // Facts about devices: their kinds, whether they have Dirac Live, their input sources, and where
 // their EEPROM holds what. (lib.rs, device/probe.rs, source.rs, eeprom.rs)
+#![tactic(auto)]
+
 ghost use Rattle.std.specs.Prelude.{◌≡◌};
 ghost use Rattle.facts.specs.DeviceInfo.{device_kind, supports_dirac};
 
@@ -10,7 +12,7 @@ pub mod probe;
 pub mod source;
 
 // A device's hardware id and dsp version, with its firmware and serial number.
-#[derive(Drop)]
+#[derive(Clone, Copy)]
 pub struct DeviceInfo {
     pub hw_id: u8,
     pub fw_major: u8,
@@ -20,7 +22,7 @@ pub struct DeviceInfo {
 }
 
 // What a device answers when it is asked for its hardware id.
-#[derive(Drop)]
+#[derive(Clone, Copy)]
 pub struct HardwareId {
     pub fw_major: u8,
     pub fw_minor: u8,

@@ -6,7 +6,7 @@ ghost use Rattle.facts.specs.DeviceInfo.{device_kind};
 use crate::DeviceInfo;
 use DeviceKind::*;
 
-#[derive(Drop)]
+#[derive(Clone, Copy)]
 pub enum DeviceKind {
     Generic,
     M4x10Hd,

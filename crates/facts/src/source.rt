@@ -5,7 +5,7 @@ ghost use Rattle.facts.specs.Source.{entry, seven_of, mapping_of, source_number,
 use crate::DeviceInfo;
 use Source::*;
 
-#[derive(Drop)]
+#[derive(Clone, Copy)]
 pub enum Source {
     NotInstalled,
     Analog,
@@ -21,14 +21,14 @@ pub enum Source {
     Hdmi,
 }
 
-#[derive(Drop)]
+#[derive(Clone, Copy)]
 pub struct Entry {
     pub source: Source,
     pub id: u8,
 }
 
 // The first count entries are a device's; the others are unused.
-#[derive(Drop)]
+#[derive(Clone, Copy)]
 pub struct Mapping {
     pub count: usize,
     pub entries: [Entry; 7],

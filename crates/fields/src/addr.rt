@@ -7,7 +7,7 @@ ghost use Rattle.fields.specs.Addr.{addr_of, width_if, addr_at, read_addr, addr_
 use octets::{Written, number, refusal};
 use packet::Summed;
 
-#[derive(Drop)]
+#[derive(Clone, Copy)]
 pub struct Addr {
     pub val: u32,
     pub len: u8,
@@ -15,7 +15,7 @@ pub struct Addr {
 }
 
 // An address that was read, or the number of the refusal.
-#[derive(Drop)]
+#[derive(Clone, Copy)]
 pub enum ReadAddr {
     Is(Addr),
     Refused(u8),

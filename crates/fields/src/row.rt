@@ -16,7 +16,7 @@ use octets::{Place, Written, number, refusal};
 use packet::Summed;
 
 // A field of a packet. A payload and floats stand in lent bytes; a float takes four of them.
-#[derive(Drop)]
+#[derive(Clone, Copy)]
 pub enum Field {
     Nothing,
     Byte(u8),
@@ -28,7 +28,7 @@ pub enum Field {
 }
 
 // A field in an array.
-#[derive(Drop)]
+#[derive(Clone, Copy)]
 pub struct Cell {
     pub field: Field,
 }

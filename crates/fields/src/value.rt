@@ -13,7 +13,7 @@ use octets::{Place, Written, number, refusal};
 use packet::Summed;
 
 // The bytes of an unknown value stand at a place in lent bytes.
-#[derive(Drop)]
+#[derive(Clone, Copy)]
 pub enum Value {
     Float(f32),
     FixedPoint(FixedPoint),
@@ -23,13 +23,13 @@ pub enum Value {
 }
 
 // A value in an array, as of the five that stand beside a command.
-#[derive(Drop)]
+#[derive(Clone, Copy)]
 pub struct Coefficient {
     pub value: Value,
 }
 
 // A value that was read, or the number of the refusal.
-#[derive(Drop)]
+#[derive(Clone, Copy)]
 pub enum ReadValue {
     Is(Value),
     Refused(u8),

@@ -1,5 +1,7 @@
 // Reads one save from standard input and prints the EEPROM that it restores as Intel HEX, or only the
 // number of its refusal.
+#![tactic(auto)]
+
 use images::export::export;
 use libc::STDIN_FILENO;
 use octets::{Done, Written};

@@ -1,5 +1,7 @@
 // Reads a text of Intel HEX from standard input and writes the bytes of its image, or only the number
 // of its refusal. The image has as many bytes as the one argument says, without one 65,536.
+#![tactic(auto)]
+
 use images::import::import;
 use libc::STDIN_FILENO;
 use octets::Done;

@@ -60,7 +60,7 @@ fn judge_rows(hex: &[u8], size: usize, marks: &mut [u8]) -> Done
 }
 
 // What a line comes to behind the rows that are marked: one more row, the end of the text, or a fault.
-#[derive(Drop)]
+#[derive(Clone, Copy)]
 enum Step {
     Row,
     End,

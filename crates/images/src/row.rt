@@ -8,7 +8,7 @@ use octets::{number, refusal};
 use text::Pairs;
 
 // What a line says. The data of a row stand in the record's bytes behind its type.
-#[derive(Drop)]
+#[derive(Clone, Copy)]
 pub enum Line {
     Row { start: u16, count: u8 },
     End,

@@ -1,6 +1,8 @@
 // The listing of a save: a line for its sizes, one for each frame, and one for how many there are.
 // A save is judged; then its text is made once, on a page that has room for every text
 // (proofs/Fits.antt), and put whole or not at all.
+#![tactic(auto)]
+
 ghost use Rattle.std.specs.Prelude.{◌≡◌, ◌∷◌, ◌++◌, ◌≤◌, length, drop};
 ghost use Rattle.octets.specs.Outcome.{written};
 ghost use Rattle.octets.specs.Over.{into};
@@ -74,7 +76,7 @@ fn add_text(shape: Shape, save: &[u8], page: &mut [u8]) -> usize
 }
 
 // How many frames there are, and where their lines end.
-#[derive(Drop)]
+#[derive(Clone, Copy)]
 struct Added {
     frames: usize,
     end: usize,

@@ -1,5 +1,7 @@
 // Reads one save from standard input and prints its listing, or only the number of its refusal. It
 // only reads and writes: the text is the library's.
+#![tactic(auto)]
+
 use libc::STDIN_FILENO;
 use octets::Written;
 use programs::prints::*;

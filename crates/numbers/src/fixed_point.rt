@@ -7,7 +7,7 @@ ghost use Rattle.numbers.specs.FixedPoint.{encoded, low_bits, code_of, around_ze
 
 use crate::float::{from_bits, to_bits};
 
-#[derive(Drop)]
+#[derive(Clone, Copy)]
 pub struct FixedPoint(pub u32);
 
 impl FixedPoint {

@@ -5,7 +5,7 @@ ghost use Rattle.numbers.specs.Gain.{least_gain, most_gain, gain_byte, bits_of_b
 
 use crate::float::to_bits;
 
-#[derive(Drop)]
+#[derive(Clone, Copy)]
 pub struct Gain(pub f32);
 
 impl Gain {

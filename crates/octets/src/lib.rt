@@ -1,5 +1,7 @@
 // What every format of the port needs: refusal numbers under names, places in lent bytes, bytes
 // written over the start of a lent output, and numbers in bytes.
+#![tactic(auto)]
+
 ghost use Rattle.std.specs.Prelude.{◌≡◌, [], ◌∷◌, length};
 ghost use Rattle.octets.specs.Outcome.{written};
 ghost use Rattle.octets.specs.Over.{into, into_at};
@@ -10,14 +12,14 @@ pub mod number;
 pub mod refusal;
 
 // What a function that writes answers: how many bytes it wrote, or the number of its refusal.
-#[derive(Drop)]
+#[derive(Clone, Copy)]
 pub enum Written {
     Bytes(usize),
     Refused(u8),
 }
 
 // What a function that only does something answers.
-#[derive(Drop)]
+#[derive(Clone, Copy)]
 pub enum Done {
     Done,
     Refused(u8),
@@ -61,7 +63,7 @@ pub fn put_word(place: usize, word: u32, memory: &mut [u32])
 }
 
 // A place in lent bytes, which stands for the bytes there.
-#[derive(Drop)]
+#[derive(Clone, Copy)]
 pub struct Place {
     pub start: usize,
     pub len: usize,

@@ -7,7 +7,7 @@ use crate::put_bytes;
 use octets::Place;
 
 // What is stored, and where. Bytes stand in a payload that is lent beside.
-#[derive(Drop)]
+#[derive(Clone, Copy)]
 pub enum Change {
     Nothing,
     EepromByte { addr: u16, value: u8 },

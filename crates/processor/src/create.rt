@@ -10,7 +10,7 @@ use facts::probe::DeviceKind;
 use octets::{number, refusal};
 
 // A device, or the number of the refusal.
-#[derive(Drop)]
+#[derive(Clone, Copy)]
 pub enum Made {
     Is(Device),
     Refused(u8),

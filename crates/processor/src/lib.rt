@@ -1,5 +1,7 @@
 // What a processor is: its record, and the two memories that its caller lends, the EEPROM (bytes) and
 // the settings (words). What it does stands in the crate device. (mock_device.rs)
+#![tactic(auto)]
+
 ghost use Rattle.std.specs.Prelude.{◌≡◌};
 ghost use Rattle.processor.specs.Memory.{too_large, put_at};
 
@@ -10,7 +12,7 @@ pub mod create;
 pub mod eeprom;
 
 // What a device is beside its memories.
-#[derive(Drop)]
+#[derive(Clone, Copy)]
 pub struct Device {
     pub hw_id: u8,
     pub dsp_version: u8,

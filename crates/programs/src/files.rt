@@ -5,7 +5,7 @@ use octets::Place;
 const LONGEST_NAME: usize = 2048;
 
 // How many bytes came, or why none are taken: the file could not be opened or read, or had more than fit.
-#[derive(Drop)]
+#[derive(Clone, Copy)]
 pub enum Came {
     Bytes(usize),
     Unopened,
@@ -14,7 +14,7 @@ pub enum Came {
 }
 
 // The file is there whole, or as it was before.
-#[derive(Drop)]
+#[derive(Clone, Copy)]
 pub enum Wrote {
     Whole,
     Unopened,

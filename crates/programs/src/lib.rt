@@ -1,4 +1,6 @@
 // What the programs share: parts of the memories that they lend, what they print, and whole files.
+#![tactic(auto)]
+
 pub mod files;
 pub mod lent;
 pub mod prints;

@@ -11,7 +11,7 @@ use views::floats::{FloatView, FloatsAnswer};
 use views::memory::{MemoryAnswer, MemoryView};
 
 // A response that was read, or the number of the refusal.
-#[derive(Drop)]
+#[derive(Clone, Copy)]
 pub enum ReadResponse {
     Response(Responses),
     Refused(u8),

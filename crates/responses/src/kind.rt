@@ -10,13 +10,13 @@ use octets::{Done, refusal};
 use views::{floats, memory};
 
 // A hardware id, or the number of the refusal.
-#[derive(Drop)]
+#[derive(Clone, Copy)]
 pub enum Identified {
     Is(HardwareId),
     Refused(u8),
 }
 
-#[derive(Drop)]
+#[derive(Clone, Copy)]
 pub enum ReadSize {
     Is(u16),
     Refused(u8),

@@ -1,4 +1,6 @@
 // Responses of the processor. (commands.rs)
+#![tactic(auto)]
+
 ghost use Rattle.std.specs.Prelude.{◌≡◌, min};
 ghost use Rattle.responses.specs.Values.{values_count, nth_value};
 ghost use Rattle.fields.specs.Value.{read_value};
@@ -17,7 +19,7 @@ pub mod kind;
 pub mod matching;
 pub mod status;
 
-#[derive(Drop)]
+#[derive(Clone, Copy)]
 pub enum Responses {
     Ack,
     Read { addr: Addr, data: Values },
@@ -33,7 +35,7 @@ pub enum Responses {
 
 // The values of a Read: those at a place in lent bytes, in chunks of four and the last perhaps
 // shorter, as they are read; or one value, as a processor answers.
-#[derive(Drop)]
+#[derive(Clone, Copy)]
 pub enum Values {
     Chunks(Place),
     One(Value),

@@ -12,25 +12,25 @@ use numbers::gain::Gain;
 use views::memory::{MemoryView, ReadByte};
 
 // Each is Unknown where the view does not hold it.
-#[derive(Drop)]
+#[derive(Clone, Copy)]
 pub enum Input {
     Is(Source),
     Unknown,
 }
 
-#[derive(Drop)]
+#[derive(Clone, Copy)]
 pub enum Volume {
     Is(Gain),
     Unknown,
 }
 
-#[derive(Drop)]
+#[derive(Clone, Copy)]
 pub enum Flag {
     Is(bool),
     Unknown,
 }
 
-#[derive(Drop)]
+#[derive(Clone, Copy)]
 pub struct MasterStatus {
     // Active configuration preset
     pub preset: ReadByte,

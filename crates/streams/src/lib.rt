@@ -1,5 +1,7 @@
 // The stream of fields that a save is: read from the front, each frame in it a write, and judged up
 // to its first fault. (added)
+#![tactic(auto)]
+
 pub mod judge;
 pub mod means;
 pub mod shape;

@@ -8,7 +8,7 @@ use octets::{number, refusal};
 use processor::change::Change;
 
 // The change that a packet comes to, whose bytes stand in the packet, or the number of its fault.
-#[derive(Drop)]
+#[derive(Clone, Copy)]
 pub enum Meant {
     Is(Change),
     Refused(u8),

@@ -6,14 +6,14 @@ use crate::stream;
 use octets::{number, refusal};
 
 // The sizes of the memories that a save is for.
-#[derive(Drop)]
+#[derive(Clone, Copy)]
 pub struct Shape {
     pub eeprom: usize,
     pub settings: usize,
 }
 
 // A save's sizes, or the number of its first fault.
-#[derive(Drop)]
+#[derive(Clone, Copy)]
 pub enum Judged {
     Sound(Shape),
     Refused(u8),

@@ -1,4 +1,6 @@
 // How many received frames were accepted and refused. (added)
+#![tactic(auto)]
+
 ghost use Rattle.std.specs.Prelude.{◌≡◌, ◌+◌, min};
 ghost use Rattle.octets.specs.Outcome.{written};
 ghost use Rattle.tally.specs.Tally.{zeroed, after};
@@ -8,7 +10,7 @@ use octets::Written;
 pub mod receive;
 
 // Each holds at the largest number.
-#[derive(Drop)]
+#[derive(Clone, Copy)]
 pub struct Tally {
     pub accepted: u32,
     pub refused: u32,

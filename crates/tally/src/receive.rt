@@ -11,7 +11,7 @@ use device::execute::receive;
 use octets::Written;
 use processor::Device;
 
-#[derive(Drop)]
+#[derive(Clone, Copy)]
 pub struct Counted {
     pub answer: Written,
     pub tally: Tally,

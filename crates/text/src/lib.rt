@@ -1,4 +1,6 @@
 // Digits and lines: numbers and bytes as text, read and written, and where a word of a line ends.
+#![tactic(auto)]
+
 ghost use Rattle.std.specs.Prelude.{◌≡◌, ◌%◌, ◌≤◌, length, drop};
 ghost use Rattle.octets.specs.Outcome.{written};
 ghost use Rattle.octets.specs.Over.{into};
@@ -9,14 +11,14 @@ ghost use Rattle.text.specs.Lines.{until_of, run_of};
 use octets::{Written, refusal};
 
 // What a word is as a number.
-#[derive(Drop)]
+#[derive(Clone, Copy)]
 pub enum Number {
     Is(u32),
     Bad,
 }
 
 // What a word is as bytes: how many were written.
-#[derive(Drop)]
+#[derive(Clone, Copy)]
 pub enum Pairs {
     Bytes(usize),
     Bad,
@@ -73,7 +75,7 @@ pub fn digit_value(byte: u8) -> u8
 }
 
 // The digits of a number stand at the end of these bytes, from start on: twenty are enough for any.
-#[derive(Drop)]
+#[derive(Clone, Copy)]
 struct Spelled {
     bytes: [u8; 20],
     start: usize,

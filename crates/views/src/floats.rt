@@ -10,21 +10,21 @@ use crate::{ReadPart, join, view_part};
 use octets::{Place, Written, number, refusal};
 
 // As many floats as count says, from start on, of four little-endian bytes each.
-#[derive(Drop)]
+#[derive(Clone, Copy)]
 pub struct FloatView {
     pub base: u16,
     pub start: usize,
     pub count: usize,
 }
 
-#[derive(Drop)]
+#[derive(Clone, Copy)]
 pub enum ReadBits {
     Is(u32),
     Refused(u8),
 }
 
 // A view, or the number of the refusal.
-#[derive(Drop)]
+#[derive(Clone, Copy)]
 pub enum FloatsAnswer {
     Is(FloatView),
     Refused(u8),

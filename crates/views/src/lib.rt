@@ -1,5 +1,7 @@
 // Views: a base address, and the bytes or the floats that were read from there on. (commands.rs)
 // A view's bytes are lent beside it; its place in them stands for the Rust's Bytes and Vec<f32>.
+#![tactic(auto)]
+
 ghost use Rattle.std.specs.Prelude.{◌≡◌, ◌++◌};
 ghost use Rattle.octets.specs.Outcome.{written};
 ghost use Rattle.views.specs.Reading.{read_part, view_part};
@@ -14,7 +16,7 @@ pub mod memory;
 const VIEWS_END: usize = 65535;
 
 // The place of a part, or none.
-#[derive(Drop)]
+#[derive(Clone, Copy)]
 pub enum ReadPart {
     At(Place),
     Outside,

@@ -8,26 +8,26 @@ ghost use Rattle.views.specs.Joining.{memory_from, memory_join};
 use crate::{ReadPart, VIEWS_END, join, view_part};
 use octets::{Place, Written, number, refusal};
 
-#[derive(Drop)]
+#[derive(Clone, Copy)]
 pub struct MemoryView {
     pub base: u16,
     pub data: Place,
 }
 
-#[derive(Drop)]
+#[derive(Clone, Copy)]
 pub enum ReadByte {
     Is(u8),
     Outside,
 }
 
-#[derive(Drop)]
+#[derive(Clone, Copy)]
 pub enum ReadWord {
     Is(u16),
     Outside,
 }
 
 // A view, or the number of the refusal.
-#[derive(Drop)]
+#[derive(Clone, Copy)]
 pub enum MemoryAnswer {
     Is(MemoryView),
     Refused(u8),
