@@ -1,0 +1,11 @@
+-- One verb more.
+use Prim.Native.Nat.{◌-◌, ◌≤◌}
+use mathlib.Core.Path.{◌≡◌}
+use lib.ListN.{length}
+use Rattle.bench_answers.proofs.verbs.Given as goal
+
+abbrev pub invariant-loop-number : goal.invariant-loop-number
+invariant-loop-number l = (number ≤ 1000) × (length l.end ≡ length l.initial.out)
+
+abbrev pub decreases-loop-number : goal.decreases-loop-number
+decreases-loop-number l = 1000 - number

@@ -1,0 +1,26 @@
+-- The five values, one by one, are the list of them.
+use mathlib.Core.Path.{◌≡◌}
+use lib.ListN.{length}
+use lib.Ieee.{nan}
+use Rattle.fields.specs.declared.value.Coefficient.{Coefficient}
+use Rattle.fields.specs.declared.value.Value.TheVariants.{Float}
+use Rattle.fields.specs.Row.{fields_of, nothings, padded}
+use Rattle.commands.proofs.Five.{five}
+use borrow.Author.Rules.{rules}
+use Rattle.commands.proofs.encode.biquad_row.Goals as goal
+
+filler : Coefficient
+filler = record { value = Float nan }
+
+all : (c : tie.Start) → length c.args.t2 ≡ 5
+all c = search rules
+
+pub returns : goal.returns
+unfolding fields_of nothings padded filler
+returns c =
+    let v4 = c in
+    let v3 = v4 in
+    let v2 = v3 in
+    let v1 = v2 in
+    let start = v1 in
+    rw (five filler start.args.t2 (all start), v1.coded.ensures, v2.coded-2.ensures, v3.coded-3.ensures, v4.coded-4.ensures, c.coded-5.ensures)

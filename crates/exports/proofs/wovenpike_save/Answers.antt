@@ -1,0 +1,7 @@
+-- The answer of the save, as a number.
+use mathlib.Core.Path.{ap}
+use Rattle.exports.specs.Answer.{out_number}
+use Rattle.exports.proofs.wovenpike_save.Goals as goal
+
+pub returns : goal.returns
+returns c = rw c.number_of_lem.ensures (ap out_number c.save.ensures)

@@ -1,0 +1,17 @@
+-- The row's data stand in the buffer.
+use Rattle.images.proofs.Placing.{row-placed}
+use Rattle.images.proofs.row.place_line.Goals as goal
+
+pub returns-in-Row : goal.returns-in-Row
+returns-in-Row c =
+    let put = c.put_at in
+    let told = c.start-1 in
+    let read = c in
+    let a = read.args in
+    row-placed a.line.now read.read_line.new.1.0 a.image.now _ _ _ (rw told.given.1 at read.read_line.ensures.0) put.ensures
+
+pub returns-in-End : goal.returns-in-End
+returns-in-End c = rw (← c.read_line.ensures.0, c.in-End.is)
+
+pub returns-in-Refused : goal.returns-in-Refused
+returns-in-Refused c = rw (← c.read_line.ensures.0, c.in-Refused.is)

@@ -1,0 +1,50 @@
+-- Its digits are read to the buffer, and the record from there.
+use Rattle.std.proofs.Common.{◌≡◌, ℕ, ◌-◌, ◌≤◌, List, [], ◌∷◌, length, take, drop, sym, ◌∙◌, arith, length-drop, take_all, rules}
+use Rattle.octets.specs.Number.{at}
+use Rattle.images.proofs.OneLine.{no-colon, well-read, badly-read, line_read}
+use Rattle.images.proofs.row.read_line.Goals as goal
+
+-- a line with a colon has a byte
+colon-first : (l : List ℕ) → at l 0 ≡ 58 → 1 ≤ length l
+colon-first [] h = absurd (omega arith)
+colon-first (b ∷ l) h = omega arith
+
+digits_are : (l : List ℕ) → take (length l - 1) (drop 1 l) ≡ drop 1 l
+digits_are l = take_all (length l - 1) (drop 1 l) (omega (arith, length-drop 1 l))
+
+pub returns-then-byte-ne58 : goal.returns-then-byte-ne58
+returns-then-byte-ne58 c = (no-colon _ (λ e. c.if-byte-ne58.true (c.byte.ensures ∙ e)), tt)
+
+pub slice_bounds-read_pairs-count : goal.slice_bounds-read_pairs-count
+slice_bounds-read_pairs-count c = colon-first c.args.line.now (sym c.byte.ensures ∙ c.if-byte-ne58.false)
+
+pub slice_bounds-read_pairs-start : goal.slice_bounds-read_pairs-start
+slice_bounds-read_pairs-start c = colon-first c.args.line.now (sym c.byte.ensures ∙ c.if-byte-ne58.false)
+
+pub slice_bounds-record_of-end : goal.slice_bounds-record_of-end
+slice_bounds-record_of-end c =
+    let read = c in
+    let first = read in
+    let a = first.args in
+    let colon = sym first.byte.ensures ∙ first.if-byte-ne58.false in
+    let reading = well-read a.line.now colon a.bytes.now (search rules) _ _ (rw (digits_are a.line.now, c.in-Bytes.is) at read.read_pairs.ensures) in
+    omega (arith, reading.room)
+
+pub returns-in-Bytes : goal.returns-in-Bytes
+returns-in-Bytes c =
+    let read = c in
+    let first = read in
+    let a = first.args in
+    let n = c.n-1 in
+    let colon = sym first.byte.ensures ∙ first.if-byte-ne58.false in
+    let reading = well-read a.line.now colon a.bytes.now (search rules) _ _ (rw (digits_are a.line.now, n.given.1) at read.read_pairs.ensures) in
+    let z : n.given.0.0 - 0 ≡ n.given.0.0 = omega arith in
+    line_read a.line.now colon _ _ reading _ (rw z) c.record_of.result c.record_of.ensures
+
+pub returns-in-Bad : goal.returns-in-Bad
+returns-in-Bad c =
+    let read = c in
+    let first = read in
+    let a = first.args in
+    let colon = sym first.byte.ensures ∙ first.if-byte-ne58.false in
+    (badly-read a.line.now colon a.bytes.now (search rules) _ (rw (digits_are a.line.now, c.in-Bad.is) at read.read_pairs.ensures), tt)

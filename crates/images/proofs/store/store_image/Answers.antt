@@ -1,0 +1,18 @@
+-- An image of the EEPROM's size is put over the whole of it.
+use Rattle.std.proofs.Common.{refl, ◌∙◌, arith}
+use Rattle.octets.proofs.Choosing.{above, same, tests}
+use Rattle.octets.proofs.Overlay.{put-over, over-whole}
+use Rattle.images.proofs.store.store_image.Goals as goal
+
+pub returns-then-eeprom-gt-LARGEST : goal.returns-then-eeprom-gt-LARGEST
+returns-then-eeprom-gt-LARGEST c = search tests
+
+pub returns-then-image-eeprom : goal.returns-then-image-eeprom
+returns-then-image-eeprom c = search tests
+
+pub returns : goal.returns
+returns c =
+    let put = c in
+    let a = put.args in
+    let whole = put-over a.image.now a.eeprom.now put.put.ensures (omega arith) ∙ over-whole a.image.now a.eeprom.now (omega arith) in
+    rw whole (above _ _ _ _ _ (omega arith) (same _ _ _ _ _ (omega arith) refl))

@@ -1,0 +1,28 @@
+-- The length byte stands before the packet, and behind it what both add up to.
+use Rattle.std.proofs.Common.{◌≡◌, ◌+◌, ◌%◌, [], ◌∷◌, length, take, drop, refl, arith, length-drop, length-take}
+use Rattle.octets.proofs.Choosing.{below, above}
+use Rattle.octets.proofs.Overlay.{put-over, put_rest}
+use Rattle.packet.proofs.Frames.{headed-over}
+use Rattle.packet.proofs.close_with.Goals as goal
+
+pub returns-then-n-gt-LONGEST_PACKET : goal.returns-then-n-gt-LONGEST_PACKET
+returns-then-n-gt-LONGEST_PACKET c = below _ _ _ _ _ (omega arith) refl
+
+pub returns-then-out-end : goal.returns-then-out-end
+returns-then-out-end c = above _ _ _ _ _ (omega arith) (below _ _ _ _ _ (omega arith) refl)
+
+pub returns : goal.returns
+returns c =
+    let third = c in
+    let first = third in
+    let both = first in
+    let a = both.args in
+    let l = a.out.now in
+    let n = a.n in
+    let p = take n (drop 1 l) in
+    let s = both.wrapping_add_u8-whole.result in
+    let long : n ≡ length p = simp (length-take, length-drop) (omega arith) in
+    let sum : s ≡ (n + 1 + a.sum) % 256 = omega arith in
+    let body = headed-over l n (omega arith) (put-over ((n + 1) ∷ []) l first.put.ensures (omega arith)) in
+    let whole = put_rest ((n + 1) ∷ p) l body (s ∷ []) (n + 1) third.put-2.ensures (omega arith) (omega arith) in
+    rw (whole, sum) (above _ _ _ _ _ (omega arith) (above _ _ _ _ _ (omega arith) refl))

@@ -1,0 +1,27 @@
+-- After i turns the first i bytes stand over the output, and are added up.
+use Rattle.std.proofs.Common.{◌-◌, refl, arith, length-set, take_all}
+use Rattle.octets.specs.Over.{over}
+use Rattle.octets.proofs.Choosing.{tests}
+use Rattle.octets.proofs.Overlay.{over-turn}
+use Rattle.packet.specs.Frame.{total}
+use Rattle.packet.proofs.Frames.{total-turn}
+use Rattle.packet.proofs.copy.Goals as goal
+
+pub returns-then-out-bytes : goal.returns-then-out-bytes
+returns-then-out-bytes c = (search tests, refl)
+
+pub loop-i-init : goal.loop-i-init
+unfolding over total
+loop-i-init c = (omega arith, refl, refl, refl)
+
+pub loop-i-preserved : goal.loop-i-preserved
+loop-i-preserved c =
+    let l = c in
+    let a = l.args in
+    let inv = l.loop-i.invariant in
+    (omega arith, simp length-set (omega arith), over-turn _ a.out.now _ inv.2 (omega arith) (omega arith), omega (arith, total-turn a.bytes.now l.loop-i.i (omega arith)))
+
+pub returns : goal.returns
+returns c =
+    let inv = c.loop-i.invariant in
+    (rw (inv.2, take_all _ _ c.loop-i-test.false) (search tests), rw (inv.3, take_all _ _ c.loop-i-test.false))

@@ -1,0 +1,26 @@
+-- The packet is copied to the lent rest, added up on the way, and closed.
+use Rattle.std.proofs.Common.{◌-◌, ◌≤◌, length, take, drop, refl, ◌∙◌, arith, length-drop, length-take}
+use Rattle.octets.proofs.Choosing.{below, above}
+use Rattle.octets.proofs.Overlay.{put-over, over-from}
+use Rattle.packet.proofs.Frames.{length-frame, sum-put, closed}
+use Rattle.packet.proofs.frame.Goals as goal
+
+pub returns-then-n-gt-LONGEST_PACKET : goal.returns-then-n-gt-LONGEST_PACKET
+returns-then-n-gt-LONGEST_PACKET c = below _ _ _ _ _ (omega arith) refl
+
+pub returns-then-out-n : goal.returns-then-out-n
+returns-then-out-n c = rw length-frame (above _ _ _ _ _ (omega arith) (below _ _ _ _ _ (omega arith) refl))
+
+pub returns : goal.returns
+returns c =
+    let close = c in
+    let copy = close in
+    let a = copy.args in
+    let p = a.packet.now in
+    let l = a.out.now in
+    let put = copy.copy-copied.ensures in
+    let rest = take (length l - 1) (drop 1 l) in
+    let room : length p ≤ length rest = simp (length-take, length-drop) (omega arith) in
+    let wrote = over-from l 1 p (omega arith) (put-over p rest put.0 room) in
+    let sum = sum-put p rest put.0 room put.1 in
+    above _ _ _ _ _ (omega arith) (close.close_with.ensures ∙ closed p l (length p) _ refl sum (omega arith) (omega arith) wrote)

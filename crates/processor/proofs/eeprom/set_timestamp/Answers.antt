@@ -1,0 +1,22 @@
+-- Both places are within, once the higher is.
+use Rattle.octets.proofs.Choosing.{below, above}
+use mathlib.Core.Path.{refl}
+use native.Mathlib.Omega.{arith}
+use Rattle.processor.proofs.Written.{stamped}
+use Rattle.processor.proofs.eeprom.set_timestamp.Goals as goal
+
+pub returns-then-eeprom-gt-LARGEST : goal.returns-then-eeprom-gt-LARGEST
+returns-then-eeprom-gt-LARGEST c = below _ _ _ _ _ (omega arith) refl
+
+pub returns-then-eeprom : goal.returns-then-eeprom
+returns-then-eeprom c = above _ _ _ _ _ (omega arith) (below _ _ _ _ _ (omega arith) refl)
+
+pub returns : goal.returns
+returns c =
+    let second = c in
+    let first = second in
+    let sized = first in
+    let a = sized.args in
+    stamped a.value a.eeprom.now sized.if-eeprom-gt-LARGEST.false (omega (arith, sized.if-eeprom.false))
+    (rw first.big_bytes32.ensures at first.put_at.ensures)
+    (rw second.big_bytes16.ensures at second.put_at-2.ensures)

@@ -1,0 +1,22 @@
+-- What it means, if anything.
+use lib.ListN.{length}
+use Rattle.streams.specs.Means.{packet_means}
+use Rattle.streams.proofs.Meaning.{change-writes, none-writes}
+use Rattle.saves.proofs.replay.store_frame.Goals as goal
+
+pub returns-in-Is : goal.returns-in-Is
+returns-in-Is c =
+    let stored = c in
+    let change = stored.change-1 in
+    let told = stored in
+    let a = told.args in
+    let means = rw change.given.1 at told.meaning_of.ensures in
+    rw (← told.packet_in-packet.ensures, ← change-writes _ (length a.eeprom.now) (length a.settings.now) _ means) stored.store.ensures
+
+pub returns-in-Refused : goal.returns-in-Refused
+returns-in-Refused c =
+    let told = c in
+    let a = told.args in
+    let p = told.packet_in-packet.result.now in
+    let means = rw c.in-Refused.is at told.meaning_of.ensures in
+    rw (← told.packet_in-packet.ensures, ← none-writes p (packet_means (length a.eeprom.now) (length a.settings.now) p) means)

@@ -1,0 +1,57 @@
+-- What is left to store, stored, is what all of it is.
+use Prim.Native.Nat.{ℕ, ◌-◌}
+use mathlib.Core.Path.{◌≡◌, refl, sym, ◌∙◌}
+use mathlib.Core.List.{List}
+use native.Mathlib.Omega.{arith}
+use lib.ListN.{length}
+use Rattle.processor.specs.Memory.{memory}
+use Rattle.streams.specs.Stream.{tag_of}
+use Rattle.streams.proofs.Streams.{tag-whole, cut-behind, behind-shorter}
+use Rattle.saves.proofs.Storing.{none-stored, frame-stored}
+use Rattle.saves.proofs.replay.store_frames.Goals as goal
+
+-- the frame at the front of what is left
+module _ (d : tie.After-content-of invariant-loop decreases-loop) where
+  abbrev left : List ℕ
+  left = d.before.before.before.loop.rest.now
+
+  is-frame : tag_of left ≡ 0x10
+  is-frame = sym d.before.before.tag_of.ensures ∙ d.before.if1.taken
+
+pub loop-rest-init : goal.loop-rest-init
+loop-rest-init c = (refl, refl, refl)
+
+pub slice_bounds-rest-count : goal.slice_bounds-rest-count
+slice_bounds-rest-count c = let d = c in omega (arith, c.field_end-end.ensures, tag-whole (left d) (is-frame d))
+
+pub slice_bounds-rest-start : goal.slice_bounds-rest-start
+slice_bounds-rest-start c = let d = c in omega (arith, c.field_end-end.ensures, tag-whole (left d) (is-frame d))
+
+pub slice_bounds-rest-end : goal.slice_bounds-rest-end
+slice_bounds-rest-end c = let d = c in omega (arith, c.field_end-end.ensures, tag-whole (left d) (is-frame d))
+
+pub loop-rest-smaller : goal.loop-rest-smaller
+loop-rest-smaller c = let d = c in rw (cut-behind (left d) c.field_end-end.result c.field_end-end.ensures) (behind-shorter (left d) (is-frame d))
+
+pub loop-rest-preserved : goal.loop-rest-preserved
+loop-rest-preserved c =
+    let d = c in
+    let call = c.store_frame in
+    let l = c.loop-rest in
+    let a = c.args in (
+      call.auto.1.0 ∙ l.invariant.0,
+      call.auto.1.1.0 ∙ l.invariant.1,
+      rw (cut-behind (left d) c.field_end-end.result c.field_end-end.ensures)
+          (frame-stored (length a.eeprom.now) (length a.settings.now) (left d) (is-frame d) _ d.content_of.ensures (memory l.eeprom l.settings) _
+          (rw (l.invariant.0, l.invariant.1) at call.ensures)
+          ∙ l.invariant.2),
+    )
+
+pub shape_of-eeprom : goal.shape_of-eeprom
+shape_of-eeprom c = c.loop-rest.invariant.0
+
+pub shape_of-settings : goal.shape_of-settings
+shape_of-settings c = c.loop-rest.invariant.1
+
+pub returns : goal.returns
+returns c = sym (none-stored _ _ c.loop-rest.rest.now (λ h. c.loop-rest-test.false (c.tag_of.ensures ∙ h)) _) ∙ c.loop-rest.invariant.2

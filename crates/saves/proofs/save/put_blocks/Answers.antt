@@ -1,0 +1,31 @@
+-- After k turns the first k fields stand over the output.
+use Prim.Native.Nat.{◌+◌, ◌-◌, ◌*◌, ◌≤◌}
+use mathlib.Core.Path.{◌≡◌, refl}
+use native.Mathlib.Omega.{arith}
+use lib.ListN.{length, length-take, length-drop}
+use Rattle.saves.specs.Save.{memory_packet, rising}
+use Rattle.saves.proofs.Saved.{length-blocks, length-memory-packet, rising_none, rising-next}
+use Rattle.saves.proofs.save.put_blocks.Goals as goal
+
+pub loop-k-init : goal.loop-k-init
+loop-k-init c = (omega arith, (refl, rising_none _ _))
+
+pub put_block-requires : goal.put_block-requires
+put_block-requires c = ((omega arith, omega arith), simp (length-take, length-drop) (omega arith))
+
+pub loop-k-smaller : goal.loop-k-smaller
+loop-k-smaller c = omega arith
+
+pub loop-k-preserved : goal.loop-k-preserved
+loop-k-preserved c =
+    let put = c in
+    let l = put in
+    let a = l.args in
+    let e = a.eeprom.now in
+    let k = l.loop-k.k in
+    let is : 40 * k ≡ length (rising (memory_packet e) k) = omega (arith, length-blocks e k) in
+    let room : 40 * k + (length (memory_packet e k) + 5) ≤ length a.out.now = omega (arith, length-memory-packet e k) in
+    (omega arith, rising-next (memory_packet e) k (40 * k) a.out.now is room l.loop-k.invariant.1.1 put.put_block.ensures)
+
+pub returns : goal.returns
+returns c = let all : c.args.blocks ≡ c.loop-k.k = omega (arith, c.loop-k-test.false) in rw all c.loop-k.invariant.1.1

@@ -1,0 +1,19 @@
+-- The command byte and the address, then the block.
+use Prim.Native.Nat.{ℕ}
+use mathlib.Core.Path.{refl}
+use mathlib.Core.List.{List, ◌∷◌}
+use native.Mathlib.Omega.{arith}
+use Rattle.octets.specs.Number.{big_bytes}
+use Rattle.octets.proofs.Overlay.{put-over, put_rest}
+use Rattle.saves.proofs.save.put_memory.Goals as goal
+
+pub returns : goal.returns
+unfolding big_bytes
+returns c =
+    let second = c in
+    let first = second in
+    let place = first in
+    let a = place.args in
+    let l = a.out.now in
+    let h : List ℕ = 0x04 ∷ big_bytes 2 a.addr in
+    put_rest h l (put-over h l (rw place.big_bytes16-place.ensures at first.put.ensures) (omega arith)) a.block.now 3 second.put-2.ensures refl (omega arith)

@@ -1,0 +1,31 @@
+-- After k turns the first k fields stand over the output.
+use Prim.Native.Nat.{◌+◌, ◌-◌, ◌*◌, ◌≤◌}
+use mathlib.Core.Path.{◌≡◌, refl}
+use native.Mathlib.Omega.{arith}
+use lib.ListN.{length, length-take, length-drop}
+use Rattle.saves.specs.Save.{word_packet, rising}
+use Rattle.saves.proofs.Saved.{length-words, length-word-packet, rising_none, rising-next}
+use Rattle.saves.proofs.save.put_settings.Goals as goal
+
+pub loop-k-init : goal.loop-k-init
+loop-k-init c = (omega arith, (refl, rising_none _ _))
+
+pub put_setting-requires : goal.put_setting-requires
+put_setting-requires c = (omega arith, omega arith, simp (length-take, length-drop) (omega arith))
+
+pub loop-k-smaller : goal.loop-k-smaller
+loop-k-smaller c = omega arith
+
+pub loop-k-preserved : goal.loop-k-preserved
+loop-k-preserved c =
+    let put = c in
+    let l = put in
+    let a = l.args in
+    let s = a.settings.now in
+    let k = l.loop-k.k in
+    let is : 13 * k ≡ length (rising (word_packet s) k) = omega (arith, length-words s k) in
+    let room : 13 * k + (length (word_packet s k) + 5) ≤ length a.out.now = omega (arith, length-word-packet s k) in
+    (omega arith, rising-next (word_packet s) k (13 * k) a.out.now is room l.loop-k.invariant.1.1 put.put_setting.ensures)
+
+pub returns : goal.returns
+returns c = let all : length c.args.settings.now ≡ c.loop-k.k = omega (arith, c.loop-k-test.false) in rw all c.loop-k.invariant.1.1

@@ -1,0 +1,13 @@
+-- Memories that are too large are refused.
+use mathlib.Core.Path.{sym, ◌∙◌}
+use Rattle.processor.proofs.Stores.{right-sizes}
+use Rattle.saves.proofs.save.save.Goals as goal
+
+pub returns-then-too_large : goal.returns-then-too_large
+returns-then-too_large c = rw (← c.too_large.ensures, c.if-too_large.true)
+
+pub save_sized-requires : goal.save_sized-requires
+save_sized-requires c = let sized = c in right-sizes _ _ (sym sized.too_large.ensures ∙ sized.if-too_large.false)
+
+pub returns : goal.returns
+returns c = let sized = c in rw (← sized.too_large.ensures, sized.if-too_large.false) c.save_sized.ensures

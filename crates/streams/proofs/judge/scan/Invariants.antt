@@ -1,0 +1,19 @@
+-- The fields that are left are as sound as all of them, and the sum is that of the bytes gone over.
+use Rattle.std.proofs.Common.{◌≡◌, ◌+◌, ◌-◌, ◌≤◌, length, take}
+use Rattle.packet.specs.Frame.{checksum_of}
+use Rattle.streams.specs.Inside.{no_fault}
+use Rattle.streams.specs.Judge.{fields_mean}
+use Rattle.streams.proofs.Judging.{left_mean}
+use Rattle.streams.proofs.judge.scan.Given as goal
+
+abbrev pub invariant-bytes : goal.invariant-bytes
+invariant-bytes l = (l.i ≤ l.len) × (l.sum ≡ checksum_of (take l.i l.frame))
+
+abbrev pub decreases-bytes : goal.decreases-bytes
+decreases-bytes l = l.len - l.i
+
+abbrev pub invariant-fields : goal.invariant-fields
+invariant-fields l = (l.frames + length l.rest ≤ length l.fields) × (no_fault (left_mean l.e l.s l.frames l.rest) ≡ no_fault (fields_mean l.e l.s l.fields))
+
+abbrev pub decreases-fields : goal.decreases-fields
+decreases-fields l = length l.rest

@@ -1,0 +1,8 @@
+-- Eight digits.
+use native.Mathlib.Nat.{div-one}
+use Rattle.text.specs.Digits.{hex_digits}
+use Rattle.text.proofs.hex8.Goals as goal
+
+pub returns : goal.returns
+unfolding hex_digits
+returns c = rw (c.hex_digit-8.ensures, c.hex_digit-7.ensures, c.hex_digit-6.ensures, c.hex_digit-5.ensures, c.hex_digit-4.ensures, c.hex_digit-3.ensures, c.hex_digit-2.ensures, c.hex_digit.ensures, div-one)

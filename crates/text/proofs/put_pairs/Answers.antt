@@ -1,0 +1,40 @@
+-- A turn is two stores past what is written: after i turns the digits of the first i bytes stand over the output.
+use Prim.Native.Nat.{◌-◌}
+use mathlib.Core.Path.{refl}
+use native.Mathlib.Omega.{arith}
+use lib.ListN.{length-set}
+use lib.Seq.{take_all}
+use Rattle.octets.specs.Over.{over}
+use Rattle.octets.proofs.Choosing.{below, above}
+use Rattle.text.specs.Digits.{pairs_of}
+use Rattle.text.proofs.Digits.{length_pairs, pairs-turn}
+use Rattle.text.proofs.put_pairs.Goals as goal
+
+pub returns-then-out-bytes : goal.returns-then-out-bytes
+returns-then-out-bytes c = rw length_pairs (below _ _ _ _ _ (omega arith) refl)
+
+pub loop-i-init : goal.loop-i-init
+unfolding over pairs_of
+loop-i-init c = (omega arith, refl, refl)
+
+pub overflow_cast-byte : goal.overflow_cast-byte
+overflow_cast-byte c = omega (arith, c.shared_slice_known-in-loop-i-1.given c.loop-i.i)
+
+pub bounds-out-i-in-loop-i : goal.bounds-out-i-in-loop-i
+bounds-out-i-in-loop-i c = simp length-set (omega arith)
+
+pub loop-i-preserved : goal.loop-i-preserved
+loop-i-preserved c =
+    let l = c in
+    let a = l.args in (
+      omega arith,
+      simp length-set (omega arith),
+      pairs-turn a.bytes.now a.out.now l.loop-i.out l.loop-i.i _ _ l.loop-i.invariant.2 (omega arith) (omega arith) c.hex_digit.ensures c.hex_digit-in-loop-i.ensures,
+    )
+
+pub returns : goal.returns
+returns c =
+    let l = c in
+    let a = l.args in
+    let n = length_pairs a.bytes.now in
+    rw (l.loop-i.invariant.2, take_all l.loop-i.i a.bytes.now (omega arith), n) (above _ _ _ _ _ (omega arith) refl)

@@ -1,0 +1,54 @@
+-- What all digits spell is what those from i on spell behind the number so far.
+use Prim.Native.Nat.{◌-◌}
+use mathlib.Core.Path.{refl, sym, ap, ◌∙◌}
+use native.Mathlib.Omega.{arith}
+use Rattle.text.specs.Read.{small, number_in}
+use Rattle.text.proofs.Reading.{digit-more, digit-bad, too_large_lem, number-end, below-36}
+use Rattle.text.proofs.read_number.Goals as goal
+
+pub loop-i-init : goal.loop-i-init
+unfolding number_in
+loop-i-init c = (omega arith, omega arith, refl)
+
+pub overflow_cast-digit : goal.overflow_cast-digit
+overflow_cast-digit c = omega arith
+
+pub returns-then-base-digit : goal.returns-then-base-digit
+returns-then-base-digit c =
+    let l = c in
+    let a = l.args in
+    digit-bad a.base l.loop-i.n a.word.now l.loop-i.i _ (omega arith) c.digit_value-digit.ensures.0 (omega arith) ∙ l.loop-i.invariant.2
+
+pub overflow_mul-n : goal.overflow_mul-n
+overflow_mul-n c =
+    let l = c in
+    let a = l in
+    let h = below-36 a.args.base l.loop-i.n (omega arith) (omega arith) in omega arith
+
+pub overflow_add-n : goal.overflow_add-n
+overflow_add-n c =
+    let l = c in
+    let a = l in
+    let h = below-36 a.args.base l.loop-i.n (omega arith) (omega arith) in omega arith
+
+pub returns-then-n-gt4294967295 : goal.returns-then-n-gt4294967295
+returns-then-n-gt4294967295 c =
+    let l = c in
+    let a = l.args in
+    too_large_lem a.base _ _ (omega arith) (omega arith)
+    ∙ ap small (sym (digit-more a.base l.loop-i.n a.word.now l.loop-i.i _ (omega arith) c.digit_value-digit.ensures.0 (omega arith))) ∙ l.loop-i.invariant.2
+
+pub loop-i-preserved : goal.loop-i-preserved
+loop-i-preserved c =
+    let l = c in
+    let a = l.args in (
+      omega arith,
+      omega arith,
+      ap small (sym (digit-more a.base l.loop-i.n a.word.now l.loop-i.i _ (omega arith) c.digit_value-digit.ensures.0 (omega arith))) ∙ l.loop-i.invariant.2,
+    )
+
+pub returns : goal.returns
+returns c =
+    let l = c in
+    let a = l.args in
+    number-end a.base l.loop-i.n a.word.now l.loop-i.i (omega arith) (omega arith) ∙ l.loop-i.invariant.2

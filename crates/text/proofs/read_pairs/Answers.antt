@@ -1,0 +1,57 @@
+-- What refuses is settled first; then each turn stores one byte past what is written.
+use Prim.Native.Nat.{◌+◌, ◌*◌, ◌-◌}
+use mathlib.Core.Path.{refl, sym, ◌∙◌}
+use mathlib.Core.Bool.{false}
+use native.Mathlib.Omega.{arith}
+use lib.ListN.{length-set}
+use lib.Seq.{take_all}
+use Rattle.octets.specs.Over.{over}
+use Rattle.octets.proofs.Choosing.{tests}
+use Rattle.text.specs.Read.{not_digits, pairs_in}
+use Rattle.text.proofs.Reading.{digit_at, length-pairs-in, pair-at, pair_turn}
+use Rattle.text.proofs.read_pairs.Goals as goal
+
+pub returns-then-not_digits : goal.returns-then-not_digits
+returns-then-not_digits c = rw (← c.not_digits.ensures, c.if-not_digits.true)
+
+pub returns-then-word-eq1 : goal.returns-then-word-eq1
+returns-then-word-eq1 c = rw (← c.not_digits.ensures, c.if-not_digits.false) (search tests)
+
+pub returns-then-out-n : goal.returns-then-out-n
+returns-then-out-n c = rw (← c.not_digits.ensures, c.if-not_digits.false) (search tests)
+
+pub loop-i-init : goal.loop-i-init
+unfolding over
+loop-i-init c = (omega arith, refl, sym c.not_digits.ensures ∙ c.if-not_digits.false, refl)
+
+pub overflow_mul-out : goal.overflow_mul-out
+overflow_mul-out c =
+    let l = c in
+    let word = l.args.word.now in
+    omega (arith, digit_at word (2 * l.loop-i.i) l.loop-i.invariant.2 (omega arith), c.digit_value.ensures.0)
+
+pub overflow_add-out : goal.overflow_add-out
+overflow_add-out c =
+    let l = c in
+    let word = l.args.word.now in
+    let one = c.digit_value.ensures in
+    omega (arith, digit_at word (2 * l.loop-i.i) l.loop-i.invariant.2 (omega arith), digit_at word (2 * l.loop-i.i + 1) l.loop-i.invariant.2 (omega arith), one.0, c.digit_value-in-loop-i.ensures.0)
+
+pub loop-i-preserved : goal.loop-i-preserved
+loop-i-preserved c =
+    let l = c in
+    let a = l.args in
+    let word = a.word.now in
+    let n = length-pairs-in word in
+    let byte = pair-at word l.loop-i.i (omega arith) in (
+      omega arith,
+      simp length-set (omega arith),
+      l.loop-i.invariant.2,
+      pair_turn (pairs_in word) a.out.now l.loop-i.out l.loop-i.i _ l.loop-i.invariant.3 (omega arith) (omega arith) (rw (byte, ← c.digit_value.ensures.0, ← c.digit_value-in-loop-i.ensures.0)),
+    )
+
+pub returns : goal.returns
+returns c =
+    let l = c in
+    let word = l.args.word.now in
+    rw (l.loop-i.invariant.2, l.loop-i.invariant.3, take_all l.loop-i.i (pairs_in word) (omega (arith, length-pairs-in word))) (search tests)

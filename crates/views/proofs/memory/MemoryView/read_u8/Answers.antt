@@ -1,0 +1,13 @@
+-- The byte where `read_at` finds it.
+use Rattle.views.specs.Reading.{byte_at}
+use Rattle.views.proofs.memory.MemoryView.read_u8.Goals as goal
+
+pub returns-in-At : goal.returns-in-At
+unfolding byte_at
+returns-in-At c =
+    let m = c in
+    rw (c.byte.ensures, ← m.read_at.ensures, m.in-At.is)
+
+pub returns-in-Outside : goal.returns-in-Outside
+unfolding byte_at
+returns-in-Outside c = rw (← c.read_at.ensures, c.in-Outside.is)
