@@ -11,8 +11,7 @@ loop-i-init c = (omega arith, refl)
 
 pub loop-i-preserved : goal.loop-i-preserved
 loop-i-preserved c =
-    let l = c in
-    (omega arith, omega (arith, total-turn l.args.bytes.now l.loop-i.i (omega arith)))
+    (omega arith, omega (arith, total-turn c.args.bytes.now c.loop-i.i (omega arith)))
 
 pub returns : goal.returns
 returns c = rw (c.loop-i.invariant.1, take_all _ _ c.loop-i-test.false)

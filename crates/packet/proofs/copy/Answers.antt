@@ -8,7 +8,7 @@ use Rattle.packet.proofs.Frames.{total-turn}
 use Rattle.packet.proofs.copy.Goals as goal
 
 pub returns-then-out-bytes : goal.returns-then-out-bytes
-returns-then-out-bytes c = (search tests, refl)
+returns-then-out-bytes c = record { out_after = search tests; sum_of = refl }
 
 pub loop-i-init : goal.loop-i-init
 unfolding over total
@@ -16,12 +16,14 @@ loop-i-init c = (omega arith, refl, refl, refl)
 
 pub loop-i-preserved : goal.loop-i-preserved
 loop-i-preserved c =
-    let l = c in
-    let a = l.args in
-    let inv = l.loop-i.invariant in
-    (omega arith, simp length-set (omega arith), over-turn _ a.out.now _ inv.2 (omega arith) (omega arith), omega (arith, total-turn a.bytes.now l.loop-i.i (omega arith)))
+    let a = c.args in
+    let inv = c.loop-i.invariant in
+    (omega arith, simp length-set (omega arith), over-turn _ a.out.now _ inv.2 (omega arith) (omega arith), omega (arith, total-turn a.bytes.now c.loop-i.i (omega arith)))
 
 pub returns : goal.returns
 returns c =
     let inv = c.loop-i.invariant in
-    (rw (inv.2, take_all _ _ c.loop-i-test.false) (search tests), rw (inv.3, take_all _ _ c.loop-i-test.false))
+    record {
+      out_after = rw (inv.2, take_all _ _ c.loop-i-test.false) (search tests);
+      sum_of = rw (inv.3, take_all _ _ c.loop-i-test.false);
+    }

@@ -13,14 +13,11 @@ returns-then-out-n c = rw length-frame (above _ _ _ _ _ (omega arith) (below _ _
 
 pub returns : goal.returns
 returns c =
-    let close = c in
-    let copy = close in
-    let a = copy.args in
-    let p = a.packet.now in
-    let l = a.out.now in
-    let put = copy.copy-copied.ensures in
+    let p = c.args.packet.now in
+    let l = c.args.out.now in
+    let put = c.copy-copied.ensures in
     let rest = take (length l - 1) (drop 1 l) in
     let room : length p ≤ length rest = simp (length-take, length-drop) (omega arith) in
-    let wrote = over-from l 1 p (omega arith) (put-over p rest put.0 room) in
-    let sum = sum-put p rest put.0 room put.1 in
-    above _ _ _ _ _ (omega arith) (close.close_with.ensures ∙ closed p l (length p) _ refl sum (omega arith) (omega arith) wrote)
+    let wrote = over-from l 1 p (omega arith) (put-over p rest put.out_after room) in
+    let sum = sum-put p rest put.out_after room put.sum_of in
+    above _ _ _ _ _ (omega arith) (c.close_with.ensures ∙ closed p l (length p) _ refl sum (omega arith) (omega arith) wrote)
