@@ -38,6 +38,7 @@ impl DeviceInfo {
     }
 
     // Whether it has Dirac Live.
+    #[tactic(auto, using(octets::proofs::Choosing::tests), unfolding(crate::specs::DeviceInfo::supports_dirac, octets::specs::Choice::if_eq))]
     pub fn supports_dirac(self) -> bool
         ensures { result ≡ supports_dirac self.dsp_version }
     {

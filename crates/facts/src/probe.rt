@@ -32,6 +32,7 @@ impl DeviceKind {
 }
 
 // The kind of a device, Generic where none is known.
+#[tactic(auto, using(octets::proofs::Choosing::tests), unfolding(crate::specs::DeviceInfo::device_kind, octets::specs::Choice::if_both, octets::specs::Choice::if_eq))]
 pub fn probe_kind(info: DeviceInfo) -> DeviceKind
     ensures { result ≡ device_kind info.hw_id info.dsp_version }
 {

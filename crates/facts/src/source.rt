@@ -47,6 +47,7 @@ const NONE: Mapping = Mapping {
 
 impl Source {
     // The available input sources with their numbers. Every device numbers its own from 0.
+    #[tactic(auto, using(octets::proofs::Choosing::tests), unfolding(crate::specs::Source::mapping_of, octets::specs::Choice::if_eq))]
     pub fn mapping(info: DeviceInfo) -> Mapping
         ensures { result ≡ seven_of (mapping_of info.hw_id info.dsp_version) }
     {

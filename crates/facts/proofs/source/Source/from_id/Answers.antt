@@ -1,5 +1,4 @@
 -- The entries before place i have other ids.
-use Prim.Native.Nat.{◌-◌}
 use native.Mathlib.Omega.{arith}
 use Rattle.facts.proofs.Sources.{inside, start, next, hit, out}
 use Rattle.facts.proofs.source.Source.from_id.Goals as goal

@@ -1,8 +1,6 @@
 -- The entries before place i hold other sources: their numbers differ.
-use Prim.Native.Nat.{◌-◌}
 use mathlib.Core.Path.{sym, ◌∙◌}
 use native.Mathlib.Omega.{arith}
-use Rattle.facts.specs.Source.{source_number}
 use Rattle.facts.proofs.Sources.{inside, start, next, hit, out}
 use Rattle.facts.proofs.source.Source.to_id.Goals as goal
 
