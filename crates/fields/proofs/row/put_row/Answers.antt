@@ -7,12 +7,10 @@ use Rattle.packet.proofs.Frames.{sum-put, total-append}
 use Rattle.fields.specs.Row.{field_bytes, packet_of, fields_of}
 use Rattle.fields.proofs.Rows.{no_cell, sound-at, packet-more, packet-length, packet-prefix, next-ends, packet-all}
 use Rattle.fields.proofs.row.put_row.Goals as goal
+use Rattle.fields.proofs.row.put_row.Goals.{After-field_len-n}
 
-starts : (c : tie.After-field-len invariant-loop decreases-loop) → c.before.before.before.loop.at ≤ length c.before.before.before.loop.out
-starts c =
-    let l = c.before.before.before in
-    let a = l.before.before.before.args in
-    omega (arith, packet-prefix a.payload.now (fields_of a.t1) l.loop.i)
+starts : (c : After-field_len-n) → c.loop-i.at ≤ length c.loop-i.out
+starts c = omega (arith, packet-prefix c.args.payload.now (fields_of c.args.row) c.loop-i.i)
 
 pub loop-i-init : goal.loop-i-init
 unfolding packet_of over total
@@ -21,43 +19,40 @@ loop-i-init c = (omega arith, search rules, refl, refl, refl, refl)
 pub field_len-n-requires : goal.field_len-n-requires
 field_len-n-requires c =
     let l = c in
-    sound-at _ _ l.loop-i.i l.requires.0 (omega arith)
+    sound-at _ _ l.loop-i.i c.requires.all_writable (omega arith)
 
 pub put_field-put-requires : goal.put_field-put-requires
 put_field-put-requires c =
     let l = c in
-    sound-at _ _ l.loop-i.i l.requires.0 (omega arith)
+    sound-at _ _ l.loop-i.i c.requires.all_writable (omega arith)
 
 pub overflow_add-at : goal.overflow_add-at
 overflow_add-at c =
-    let n = c in
-    let l = n in
-    let a = l.args in
-    omega (arith, next-ends a.payload.now a.t1 l.loop-i.i (omega arith), n.field_len-n.ensures)
+    let l = c in
+    let a = c.args in
+    omega (arith, next-ends a.payload.now a.row l.loop-i.i (omega arith), c.field_len-n.ensures)
 
 pub loop-i-preserved : goal.loop-i-preserved
 loop-i-preserved c =
-    let put = c in
-    let n = put in
-    let l = n in
-    let a = l.args in
+    let l = c in
+    let a = c.args in
     let p = a.payload.now in
     let i = l.loop-i.i in
-    let row = fields_of a.t1 in
-    let bytes = field_bytes p (get_or a.t1 i no_cell).field in
+    let row = fields_of a.row in
+    let bytes = field_bytes p (get_or a.row i no_cell).field in
     let rest = take (length l.loop-i.out - l.loop-i.at) (drop l.loop-i.at l.loop-i.out) in
-    let ends = next-ends p a.t1 i (omega arith) in
-    let more = packet-length p a.t1 i (omega arith) in
-    let here : l.loop-i.at + n.field_len-n.result ≡ length (packet_of p (take (i + 1) row)) = omega (arith, n.field_len-n.ensures) in
-    let wrote = put_rest _ a.out.now l.loop-i.invariant.4 _ l.loop-i.at put.put_field-put.ensures.0 l.loop-i.invariant.2 (omega arith) ∙ ap (λ (w : List ℕ). over w a.out.now) (sym (packet-more p a.t1 i (omega arith))) in
+    let ends = next-ends p a.row i (omega arith) in
+    let more = packet-length p a.row i (omega arith) in
+    let here : l.loop-i.at + c.field_len-n.result ≡ length (packet_of p (take (i + 1) row)) = omega (arith, c.field_len-n.ensures) in
+    let wrote = put_rest _ a.out.now l.loop-i.invariant.4 _ l.loop-i.at c.put_field-put.ensures.out_after l.loop-i.invariant.2 (omega arith) ∙ ap (λ (w : List ℕ). over w a.out.now) (sym (packet-more p a.row i (omega arith))) in
     let room : length bytes ≤ length rest = simp (length-take, length-drop) (omega arith) in
-    let added = sum-put bytes rest put.put_field-put.ensures.0 room put.put_field-put.ensures.1 in
-    let both : total (packet_of p (take (i + 1) row)) ≡ total (packet_of p (take i row)) + total bytes = rw (packet-more p a.t1 i (omega arith), total-append) in
+    let added = sum-put bytes rest c.put_field-put.ensures.out_after room c.put_field-put.ensures.sum_of in
+    let both : total (packet_of p (take (i + 1) row)) ≡ total (packet_of p (take i row)) + total bytes = rw (packet-more p a.row i (omega arith), total-append) in
     (omega arith, l.loop-i.invariant.1, here, ap length wrote ∙ length_over _ _ (omega arith), wrote, omega (arith, both, added, l.loop-i.invariant.5))
 
 pub returns : goal.returns
 returns c =
     let a = c.args in
     let inv = c.loop-i.invariant in
-    let all = packet-all a.payload.now a.t1 c.loop-i.i (omega arith) in
-    (rw all at inv.4, rw all at inv.5)
+    let all = packet-all a.payload.now a.row c.loop-i.i (omega arith) in
+    record { out_after = rw all at inv.4; value = rw all at inv.5 }
