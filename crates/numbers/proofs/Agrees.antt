@@ -1,9 +1,9 @@
 -- The code of a float is what the Rust computes from it, in the operations of IEEE 754: the product is exact, the sum is
 -- rounded once, and the cut is held.
-use Rattle.std.proofs.Common.{◌≡◌, ℕ, zero, suc, ◌+◌, ◌-◌, ◌*◌, ◌/◌, ◌%◌, ◌^◌, ◌<◌, ◌≤◌, min, Bool, true, false, cond, not, T, eqb, ltb, ℤ, pos, negsuc, neg_ℤ, sym, refl, ap, ◌∙◌, subst, inl, inr, true≢false, lt_of_lt_of_le, lt_of_le_of_lt, le_of_lt, mul-le-mul_right, mod-lt, mul_assoc, mul_comm, add-mul, add_comm, le_antisymm, lt_of_mul-lt-mul_right, mul-lt-mul_of_pos_right, one-mul, mul-one, mul_right_comm, le_of_mul-le-mul_right, sub-le, arith, lit<, lit≤, eqb→eq, ltb→lt, nltb→le, pow_mono, shl_lt}
+use Rattle.std.proofs.Common.{◌≡◌, ℕ, zero, suc, ◌+◌, ◌-◌, ◌*◌, ◌/◌, ◌^◌, ◌<◌, ◌≤◌, min, Bool, true, false, cond, not, T, eqb, ltb, pos, neg_ℤ, sym, refl, ap, ◌∙◌, true≢false, lt_of_lt_of_le, lt_of_le_of_lt, le_of_lt, mul-le-mul_right, mod-lt, mul_assoc, mul_comm, add-mul, add_comm, lt_of_mul-lt-mul_right, mul-lt-mul_of_pos_right, mul-one, mul_right_comm, le_of_mul-le-mul_right, sub-le, arith, lit<, lit≤, eqb→eq, ltb→lt, nltb→le, pow_mono, shl_lt}
 use native.Mathlib.Nat.{mul-sub}
 use native.Mathlib.Decide.{ℕ_discrete}
-use mathlib.Core.Bool.{beq, false≢true}
+use mathlib.Core.Bool.{false≢true}
 use lib.Dec.{not_T}
 use lib.Pow.{field}
 use lib.Ieee.{Float, nan, inf, fin, binary32, binary64, up, down, odd, round, sum, add, mul, to_signed, of_fields, of_bits, to_bits, fits}
@@ -12,7 +12,7 @@ use lib.Ieee.Bits.{cond_no, of_bits-to_bits}
 use lib.Ieee.Nearest.{div_same}
 use lib.Ieee.Exact.{HasValue, odd_sign}
 use lib.Ieee.Scale.{round_same}
-use Rattle.octets.proofs.Choosing.{below, above, same, other}
+use Rattle.octets.proofs.Choosing.{below, above}
 use Rattle.numbers.specs.Pattern.{negative, exponent, fraction, magnitude, round_to}
 use Rattle.numbers.specs.FixedPoint.{cut_sum, held, range_end, encoded, code_word, code_of}
 use Rattle.numbers.specs.Ieee.{encoded_by, code_by}

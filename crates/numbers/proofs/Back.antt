@@ -1,13 +1,12 @@
 -- "For codes of size at most 2^24 either side of zero, coding again gives the code back."
-use Rattle.std.proofs.Common.{◌≡◌, ℕ, zero, suc, ◌+◌, ◌-◌, ◌*◌, ◌/◌, ◌%◌, ◌^◌, ◌<◌, ◌≤◌, min, Bool, true, false, ℤ, pos, negsuc, neg_ℤ, nat_abs, sym, refl, ap, ◌∙◌, subst, inl, inr, le_trans, mul-le-mul_right, mod-lt, zero-lt-suc, mul_assoc, mul_comm, add-mul, eq-or-lt_of_le, mul-one, mul-div_cancel, arith, lit<, lit≤}
+use Rattle.std.proofs.Common.{◌≡◌, ℕ, suc, ◌+◌, ◌-◌, ◌*◌, ◌/◌, ◌%◌, ◌^◌, ◌<◌, ◌≤◌, Bool, true, false, ℤ, pos, negsuc, nat_abs, sym, refl, ap, ◌∙◌, subst, inl, inr, le_trans, mul-le-mul_right, mod-lt, zero-lt-suc, mul_assoc, mul_comm, add-mul, eq-or-lt_of_le, mul-one, mul-div_cancel, arith, lit<, lit≤}
 use native.Mathlib.Nat.{mul-sub}
-use lib.Ieee.{Float, fin, binary32, round, div, of_int, of_bits, to_bits}
+use lib.Ieee.{Float, fin, binary32, round, div, of_int}
 use lib.Ieee.Fits.{div-fits}
-use lib.Ieee.Bits.{of_bits-to_bits}
 use lib.Ieee.Exact.{HasValue}
 use Rattle.octets.proofs.Choosing.{lt-or-le, below, above, either_lt}
 use Rattle.numbers.specs.Pattern.{round_to}
-use Rattle.numbers.specs.FixedPoint.{flip27, signed, held, cut_sum, cleared, code_word, code_of, around_zero, bits_of_code}
+use Rattle.numbers.specs.FixedPoint.{flip27, held, cut_sum, code_word, code_of, around_zero, bits_of_code}
 use Rattle.numbers.specs.Ieee.{float_by, encoded_by}
 use Rattle.numbers.proofs.Round.{round_to-exact, rescale}
 use Rattle.numbers.proofs.Bits.{steps-val, code-bits}

@@ -1,5 +1,5 @@
 -- The pattern of a float whose value is known, and with it the bits of a code's float and of a byte's gain.
-use Rattle.std.proofs.Common.{◌≡◌, ℕ, zero, suc, ◌+◌, ◌-◌, ◌*◌, ◌/◌, ◌%◌, ◌^◌, ◌<◌, ◌≤◌, Bool, true, false, cond, not, ℤ, pos, negsuc, sym, refl, ap, ◌∙◌, subst, inl, inr, le_trans, le_of_eq, le_refl, lt_of_lt_of_le, lt_of_le_of_lt, lt_irrefl, mul-le-mul_right, zero-lt-suc, mul_assoc, mul_comm, le_antisymm, eq-or-lt_of_le, mul-pos, one-mul, lt_of_not-le, zero-mul, mul-one, mul_right_comm, not-le_of_lt, mul-div_cancel, arith, lit<, lit≤, pow_pos, pow_mono, pow-add, shl_lt}
+use Rattle.std.proofs.Common.{◌≡◌, ℕ, zero, suc, ◌+◌, ◌-◌, ◌*◌, ◌/◌, ◌%◌, ◌^◌, ◌<◌, ◌≤◌, Bool, true, false, cond, not, ℤ, pos, negsuc, sym, refl, ap, ◌∙◌, inl, inr, le_trans, le_of_eq, le_refl, lt_of_lt_of_le, lt_irrefl, mul-le-mul_right, zero-lt-suc, mul_assoc, mul_comm, le_antisymm, eq-or-lt_of_le, mul-pos, one-mul, lt_of_not-le, zero-mul, mul-one, mul_right_comm, not-le_of_lt, mul-div_cancel, arith, lit<, lit≤, pow_pos, pow_mono, pow-add, shl_lt}
 use Prim.Native.Nat.{compare}
 use native.Mathlib.Nat.{mul-div-mul_right}
 use mathlib.Core.Bool.{beq}
@@ -11,8 +11,7 @@ use lib.Ieee.Digits.{size-lt, size-le, size_reaches}
 use lib.Ieee.Nearest.{closest}
 use lib.Ieee.Back.{round_whole}
 use lib.Ieee.Bits.{of_bits-to_bits}
-use lib.Ieee.Exact.{HasValue, round_exact}
-use lib.Ieee.Scale.{round_same}
+use lib.Ieee.Exact.{HasValue}
 use Rattle.numbers.specs.Pattern.{round_to, pattern_of}
 use Rattle.numbers.specs.FixedPoint.{around_zero, bits_of_steps, bits_of_code}
 use Rattle.numbers.specs.Gain.{bits_of_byte}

@@ -1,5 +1,5 @@
 -- Each public function's contract fixes its answer.
-use Rattle.std.proofs.Common.{◌≡◌, ℕ}
+use Rattle.std.proofs.Common.{ℕ}
 use lib.Ieee.{Float}
 use Rattle.octets.proofs.Agree.{Fixes, agree}
 use Rattle.numbers.proofs.float.from_bits.Reads as from_bits

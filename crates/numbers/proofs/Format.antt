@@ -1,7 +1,7 @@
 -- The 5.23 format and the two functions. What to_f32 returns of a code of 28 bits is its meaning rounded once. A float's code means
 -- the float cut down to a step, where that is in the range; elsewhere the code's low 28 bits are that number's, wrapped, and it may
 -- have more bits than these.
-use Rattle.std.proofs.Common.{◌≡◌, ℕ, zero, suc, ◌+◌, ◌-◌, ◌*◌, ◌/◌, ◌%◌, ◌^◌, ◌<◌, ◌≤◌, min, Bool, true, false, ℤ, pos, negsuc, neg_ℤ, sym, refl, ap, ◌∙◌, subst, inl, inr, le_trans, lt_of_lt_of_le, lt_of_le_of_lt, le_of_lt, mod-eq_of_lt, div-lt_iff_lt-mul, lt_of_not-le, not-le_of_lt, arith, lit<, lit≤}
+use Rattle.std.proofs.Common.{◌≡◌, ℕ, zero, suc, ◌+◌, ◌-◌, ◌*◌, ◌/◌, ◌%◌, ◌^◌, ◌<◌, ◌≤◌, Bool, true, false, ℤ, pos, negsuc, neg_ℤ, sym, refl, ap, ◌∙◌, subst, inl, inr, le_trans, lt_of_lt_of_le, lt_of_le_of_lt, le_of_lt, mod-eq_of_lt, div-lt_iff_lt-mul, arith, lit<, lit≤}
 use lib.Signed.{mag}
 use lib.Pow.{shr_mono}
 use lib.Ieee.{Float, fin, binary32, round, div, of_int, of_bits, to_bits}
@@ -11,9 +11,8 @@ use lib.Ieee.Exact.{HasValue}
 use Rattle.octets.specs.Choice.{if_lt}
 use Rattle.octets.proofs.Choosing.{lt-or-le, below, above, either_lt}
 use Rattle.numbers.specs.Pattern.{negative, exponent, fraction, magnitude, round_to}
-use Rattle.numbers.specs.FixedPoint.{low_bits, signed, flip27, held, cut_sum, encoded, cleared, code_word, code_of, around_zero, bits_of_code}
+use Rattle.numbers.specs.FixedPoint.{low_bits, flip27, encoded, cleared, code_of, around_zero, bits_of_code}
 use Rattle.numbers.specs.Format.{meaning, as_float, cut_down, Unheld}
-use Rattle.numbers.specs.Ieee.{float_by}
 use Rattle.numbers.proofs.Round.{round-below}
 use Rattle.numbers.proofs.Magnitude.{size_of, in-order-lt}
 use Rattle.numbers.proofs.Sum.{ceil}

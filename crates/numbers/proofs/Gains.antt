@@ -1,11 +1,9 @@
 -- What a gain's byte comes to on each branch of `gain_byte`, and that it is what the Rust computes: (x.abs() * 2.) as u8.
-use Rattle.std.proofs.Common.{◌≡◌, ℕ, zero, suc, ◌+◌, ◌-◌, ◌*◌, ◌/◌, ◌%◌, ◌^◌, ◌<◌, ◌≤◌, min, Bool, true, false, cond, T, eqb, ◌⊎◌, pos, sym, refl, ap, ◌∙◌, subst, inl, inr, true≢false, le_trans, lt_of_lt_of_le, le_of_suc-le-suc, lt_of_le_of_lt, le_of_lt, mul-le-mul_right, mod-lt, mul_assoc, div-lt_iff_lt-mul, eq-or-lt_of_le, mul-le-mul_left, le-div_iff_mul-le, mul-one, arith, lit<, lit≤, eqb→eq, pow_pos, pow_mono, pow-add, eqb-true}
+use Rattle.std.proofs.Common.{◌≡◌, ℕ, zero, suc, ◌+◌, ◌-◌, ◌*◌, ◌/◌, ◌%◌, ◌^◌, ◌<◌, ◌≤◌, min, Bool, true, false, T, eqb, ◌⊎◌, pos, sym, refl, ap, ◌∙◌, subst, inl, inr, true≢false, le_trans, le_of_suc-le-suc, lt_of_le_of_lt, mod-lt, mul_assoc, div-lt_iff_lt-mul, eq-or-lt_of_le, le-div_iff_mul-le, mul-one, arith, lit<, lit≤, pow_pos, pow-add, eqb-true}
 use native.Mathlib.Nat.{div-eq_of_lt, mul-div-mul_right}
-use native.Mathlib.Decide.{ℕ_discrete}
-use lib.Dec.{not_T}
 use lib.Pow.{shr_mono, field}
 use lib.Ieee.{Float, nan, inf, fin, binary32, up, down, size, round, mul, le, to_unsigned, of_fields, of_bits, to_bits, fits}
-use lib.Ieee.Bits.{cond_no, of_bits-to_bits}
+use lib.Ieee.Bits.{of_bits-to_bits}
 use lib.Ieee.Fits.{down_pos}
 use lib.Ieee.Nearest.{div_same}
 use lib.Ieee.Exact.{HasValue}
@@ -20,7 +18,7 @@ use Rattle.numbers.specs.Ieee.{absolute, byte_by}
 use Rattle.numbers.proofs.Round.{round-to}
 use Rattle.numbers.proofs.Magnitude.{mag_is, mag-ge, size_of, in_order}
 use Rattle.numbers.proofs.Bits.{gain-bits, gain-agrees}
-use Rattle.numbers.proofs.Agrees.{Finite, is_finite, is-infinite, is-nan}
+use Rattle.numbers.proofs.Agrees.{is_finite, is-infinite, is-nan}
 
 -- ---- the thresholds, by their magnitudes
 under-half : (p : ℕ) → p < 0x3f00_0000 → size_of p < 2 ^ 148

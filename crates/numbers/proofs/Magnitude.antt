@@ -1,5 +1,5 @@
 -- How large a magnitude is, by the pattern's exponent: an exponent x is a factor of 2 ^ (x - 1).
-use Rattle.std.proofs.Common.{◌≡◌, ℕ, zero, suc, ◌+◌, ◌-◌, ◌*◌, ◌/◌, ◌%◌, ◌^◌, ◌<◌, ◌≤◌, refl, inl, inr, le_trans, le_of_eq, lt_of_lt_of_le, le_of_lt, mul-le-mul_right, mul-le-mul, eq-or-lt_of_le, mul-le-mul_left, not-le_of_lt, arith, lit≤, pow_mono, pow-add, shl_lt}
+use Rattle.std.proofs.Common.{◌≡◌, ℕ, zero, suc, ◌+◌, ◌-◌, ◌*◌, ◌/◌, ◌%◌, ◌^◌, ◌<◌, ◌≤◌, inl, inr, le_trans, le_of_eq, lt_of_lt_of_le, le_of_lt, mul-le-mul_right, mul-le-mul, eq-or-lt_of_le, mul-le-mul_left, not-le_of_lt, arith, lit≤, pow_mono, pow-add, shl_lt}
 use Rattle.octets.proofs.Choosing.{lt-or-le}
 use Rattle.numbers.specs.Pattern.{magnitude}
 

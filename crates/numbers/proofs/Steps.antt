@@ -1,5 +1,5 @@
 -- The shifts of `steps_down` and `steps_up`, and what `encoded_low` returns on each of its branches.
-use Rattle.std.proofs.Common.{◌≡◌, ℕ, ◌+◌, ◌-◌, ◌*◌, ◌/◌, ◌%◌, ◌^◌, ◌<◌, ◌≤◌, Bool, true, false, ◌⊎◌, ℤ, pos, negsuc, sym, refl, ap, ◌∙◌, inl, inr, le_trans, lt_of_lt_of_le, le_of_lt, mod-lt, mod-eq_of_lt, mul_assoc, mul_comm, add-mul, eq-or-lt_of_le, one-mul, mul-div_cancel, arith, lit<, lit≤, pow_pos, pow-add, shl_exact}
+use Rattle.std.proofs.Common.{◌≡◌, ℕ, ◌+◌, ◌-◌, ◌*◌, ◌/◌, ◌%◌, ◌^◌, ◌<◌, ◌≤◌, Bool, true, false, ℤ, pos, negsuc, sym, refl, ap, ◌∙◌, inl, inr, le_trans, lt_of_lt_of_le, le_of_lt, mod-lt, mod-eq_of_lt, mul_assoc, mul_comm, add-mul, eq-or-lt_of_le, one-mul, mul-div_cancel, arith, lit<, lit≤, pow_pos, pow-add, shl_exact}
 use native.Mathlib.Nat.{div-eq_of_lt, mul-div-mul_right, div-div-eq-div-mul}
 use lib.Arith.{digits_div}
 use lib.Pow.{pow-lt, shr_mono}

@@ -1,6 +1,6 @@
 -- What the rounded sum comes to. A magnitude is q * 2 ^ k: where k is large enough the sum with 2 ^ 153 is exact, and a
 -- smaller one lies between two numbers that antt rounds alike. Large powers stand as variables where `omega` works.
-use Rattle.std.proofs.Common.{◌≡◌, ℕ, zero, suc, ◌+◌, ◌-◌, ◌*◌, ◌/◌, ◌%◌, ◌^◌, ◌<◌, ◌≤◌, min, true, false, ℤ, pos, negsuc, neg_ℤ, sym, refl, ap, ◌∙◌, subst, inl, inr, zero-le, le_trans, le_of_eq, lt_of_lt_of_le, le_of_suc-le-suc, lt_of_le_of_lt, add-zero, le_of_lt, mod-lt, mul_assoc, suc-mul, mul_comm, div-lt_iff_lt-mul, add-mul, add-sub_of_le, le_antisymm, one-mul, lt_of_not-le, div-add-mod', not-le_of_lt, mul-div_cancel, sub-le, arith, lit<, lit≤, pow_mono, pow-add, shl_lt}
+use Rattle.std.proofs.Common.{◌≡◌, ℕ, zero, suc, ◌+◌, ◌-◌, ◌*◌, ◌/◌, ◌%◌, ◌^◌, ◌<◌, ◌≤◌, min, true, false, pos, neg_ℤ, sym, refl, ap, ◌∙◌, inl, inr, zero-le, le_trans, lt_of_lt_of_le, le_of_suc-le-suc, lt_of_le_of_lt, add-zero, le_of_lt, mod-lt, mul_assoc, suc-mul, mul_comm, div-lt_iff_lt-mul, add-mul, add-sub_of_le, le_antisymm, one-mul, lt_of_not-le, div-add-mod', not-le_of_lt, mul-div_cancel, sub-le, arith, lit<, lit≤, pow_mono, pow-add, shl_lt}
 use native.Mathlib.Nat.{mul-sub, sub-le-sub_left, div-eq_of_lt, div-eq_of_lt-le, mul-add-div_right}
 use lib.Pow.{shr_mono}
 use lib.Ieee.Digits.{back}

@@ -1,5 +1,5 @@
 -- A word with bit 27 flipped, and a code's steps around zero, as the machine works them out.
-use Rattle.std.proofs.Common.{◌≡◌, ℕ, zero, suc, ◌+◌, ◌-◌, ◌*◌, ◌/◌, ◌%◌, ◌^◌, ◌<◌, ◌≤◌, ℤ, pos, negsuc, ◌-ℤ◌, sym, refl, ap, ◌∙◌, subst, mod-lt, arith, lit<, w32, SFits, to_z, of_z}
+use Rattle.std.proofs.Common.{◌≡◌, ℕ, zero, suc, ◌+◌, ◌-◌, ◌*◌, ◌/◌, ◌%◌, ◌^◌, ◌<◌, ◌≤◌, ℤ, pos, negsuc, ◌-ℤ◌, refl, ap, ◌∙◌, mod-lt, arith, lit<, w32, SFits, to_z, of_z}
 use lib.Signed.{mag}
 use lib.Bits.{bit_xor, bit_and, xor_add_and, and_high}
 use mir.ValLaws.{to_z-of_z, to_z_pos}

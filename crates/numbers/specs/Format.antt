@@ -1,6 +1,6 @@
 -- The 5.23 numeric format of the public SigmaDSP data sheets: a 28-bit two's complement number with 23 fraction bits,
 -- from -16 up to 16 less one step of 2^-23.
-use Rattle.std.specs.Prelude.{ℕ, zero, suc, ◌+◌, ◌-◌, ◌/◌, ◌^◌, ◌<◌, ◌≤◌, Bool, true, false, ℤ, pos, negsuc, neg_ℤ, Float}
+use Rattle.std.specs.Prelude.{ℕ, suc, ◌+◌, ◌-◌, ◌/◌, ◌^◌, ◌<◌, ◌≤◌, Bool, true, false, ℤ, pos, negsuc, neg_ℤ, Float}
 use Rattle.std.specs.Float.{binary32}
 use Rattle.std.specs.Float.Ieee.{round}
 use Rattle.octets.specs.Choice.{if_lt}

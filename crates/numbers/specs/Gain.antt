@@ -1,5 +1,5 @@
 -- Gains, as document 01 has them under "Numbers", over whole numbers.
-use Rattle.std.specs.Prelude.{ℕ, ◌/◌, ◌%◌, ◌^◌, min, true}
+use Rattle.std.specs.Prelude.{ℕ, ◌/◌, ◌^◌, min, true}
 use Rattle.octets.specs.Choice.{if_eq}
 use Rattle.numbers.specs.Pattern.{exponent, fraction, magnitude, pattern_of}
 

@@ -2,4 +2,4 @@
 use Rattle.numbers.proofs.fixed_point.FixedPoint.from_f32.Goals as goal
 
 pub returns : goal.returns
-returns c = rw (c.code_of_lem.ensures, c.to_bits.ensures)
+returns c = rw (c.code_of.ensures, c.to_bits.ensures)
