@@ -6,15 +6,13 @@ use Rattle.listed.proofs.add_frame.Goals as goal
 
 pub returns-in-Is : goal.returns-in-Is
 returns-in-Is c =
-    let told = c in
-    let a = told.args in
-    let means = rw c.in-Is.is at told.meaning_of.ensures in
-    rw (← told.packet_in-packet.ensures, ← change-writes _ a.e a.s _ means) c.add_change.ensures
+    let a = c.args in
+    let means = rw c.in-Is.is at c.meaning_of.ensures in
+    rw (← c.packet_in-packet.ensures, ← change-writes _ a.e a.s _ means) c.add_change.ensures
 
 pub returns-in-Refused : goal.returns-in-Refused
 returns-in-Refused c =
-    let told = c in
-    let a = told.args in
-    let p = told.packet_in-packet.result.now in
-    let means = rw c.in-Refused.is at told.meaning_of.ensures in
-    rw (← told.packet_in-packet.ensures, ← none-writes p (packet_means a.e a.s p) means) (adds_none _ _)
+    let a = c.args in
+    let p = c.packet_in-packet.result.now in
+    let means = rw c.in-Refused.is at c.meaning_of.ensures in
+    rw (← c.packet_in-packet.ensures, ← none-writes p (packet_means a.e a.s p) means) (adds_none _ _)

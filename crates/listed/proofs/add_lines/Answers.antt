@@ -12,46 +12,40 @@ loop-rest-init c = (omega arith, omega arith, refl, λ r o p. p)
 
 pub overflow_add-frames : goal.overflow_add-frames
 overflow_add-frames c =
-    let l = c in
-    let tag : tag_of l.loop-rest.rest.now ≡ 0x10 = sym c.tag_of.ensures ∙ c.loop-rest-test.true in
-    omega (arith, tag-whole l.loop-rest.rest.now tag)
+    let tag : tag_of c.loop-rest.rest.now ≡ 0x10 = sym c.tag_of.ensures ∙ c.loop-rest-test.true in
+    omega (arith, tag-whole c.loop-rest.rest.now tag)
 
 pub slice_bounds-rest-count : goal.slice_bounds-rest-count
 slice_bounds-rest-count c =
-    let l = c in
-    let tag : tag_of l.loop-rest.rest.now ≡ 0x10 = sym c.tag_of.ensures ∙ c.loop-rest-test.true in
-    omega (arith, tag-whole l.loop-rest.rest.now tag)
+    let tag : tag_of c.loop-rest.rest.now ≡ 0x10 = sym c.tag_of.ensures ∙ c.loop-rest-test.true in
+    omega (arith, tag-whole c.loop-rest.rest.now tag)
 
 pub slice_bounds-rest-start : goal.slice_bounds-rest-start
 slice_bounds-rest-start c =
-    let l = c in
-    let tag : tag_of l.loop-rest.rest.now ≡ 0x10 = sym c.tag_of.ensures ∙ c.loop-rest-test.true in
-    omega (arith, tag-whole l.loop-rest.rest.now tag)
+    let tag : tag_of c.loop-rest.rest.now ≡ 0x10 = sym c.tag_of.ensures ∙ c.loop-rest-test.true in
+    omega (arith, tag-whole c.loop-rest.rest.now tag)
 
 pub slice_bounds-rest-end : goal.slice_bounds-rest-end
 slice_bounds-rest-end c =
-    let l = c in
-    let tag : tag_of l.loop-rest.rest.now ≡ 0x10 = sym c.tag_of.ensures ∙ c.loop-rest-test.true in
-    omega (arith, tag-whole l.loop-rest.rest.now tag)
+    let tag : tag_of c.loop-rest.rest.now ≡ 0x10 = sym c.tag_of.ensures ∙ c.loop-rest-test.true in
+    omega (arith, tag-whole c.loop-rest.rest.now tag)
 
 pub loop-rest-smaller : goal.loop-rest-smaller
 loop-rest-smaller c =
-    let l = c in
-    let tag : tag_of l.loop-rest.rest.now ≡ 0x10 = sym c.tag_of.ensures ∙ c.loop-rest-test.true in
-    rw (cut-behind l.loop-rest.rest.now _ c.field_end-n.ensures) (behind-shorter l.loop-rest.rest.now tag)
+    let tag : tag_of c.loop-rest.rest.now ≡ 0x10 = sym c.tag_of.ensures ∙ c.loop-rest-test.true in
+    rw (cut-behind c.loop-rest.rest.now _ c.field_end-n.ensures) (behind-shorter c.loop-rest.rest.now tag)
 
 pub loop-rest-preserved : goal.loop-rest-preserved
 loop-rest-preserved c =
-    let l = c in
-    let tag : tag_of l.loop-rest.rest.now ≡ 0x10 = sym c.tag_of.ensures ∙ c.loop-rest-test.true in
-    let rest = l.loop-rest.rest.now in
-    let a = l.args in
+    let tag : tag_of c.loop-rest.rest.now ≡ 0x10 = sym c.tag_of.ensures ∙ c.loop-rest-test.true in
+    let rest = c.loop-rest.rest.now in
+    let a = c.args in
     let line = rw c.content_of.ensures at c.add_frame-end.ensures in
     rw (cut-behind rest _ c.field_end-n.ensures) (
       omega (arith, count-frame rest tag),
       omega (arith, behind-shorter rest tag),
       omega arith,
-      λ r o p. l.loop-rest.invariant.3 r o (rw (lines-frame a.e a.s rest tag) (adds-adds line p)),
+      λ r o p. c.loop-rest.invariant.3 r o (rw (lines-frame a.e a.s rest tag) (adds-adds line p)),
     )
 
 pub shape_of-page : goal.shape_of-page
@@ -59,8 +53,7 @@ shape_of-page c = c.loop-rest.invariant.2
 
 pub returns : goal.returns
 returns c =
-    let l = c in
-    let a = l.args in
-    let rest = l.loop-rest.rest.now in
+    let a = c.args in
+    let rest = c.loop-rest.rest.now in
     let other : tag_of rest ≡ 0x10 → ⊥ = λ h. c.loop-rest-test.false (c.tag_of.ensures ∙ h) in
-    (omega (arith, count_none rest other), l.loop-rest.invariant.3 _ _ (rw (lines_none a.e a.s rest other) (adds_none _ _)))
+    (omega (arith, count_none rest other), c.loop-rest.invariant.3 _ _ (rw (lines_none a.e a.s rest other) (adds_none _ _)))

@@ -7,6 +7,5 @@ use Rattle.listed.proofs.add_text.Goals as goal
 pub returns : goal.returns
 unfolding text_for lines_of
 returns c =
-    let first = c in
-    let lines = rw first.fields_of-fields.ensures at c.add_lines-lines.ensures in
-    adds-adds first.add_pair-first.ensures (adds-adds lines.1 (rw lines.0 at c.add_end.ensures))
+    let lines = rw c.fields_of-fields.ensures at c.add_lines-lines.ensures in
+    adds-adds c.add_pair-first.ensures (adds-adds lines.1 (rw lines.0 at c.add_end.ensures))

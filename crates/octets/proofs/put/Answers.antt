@@ -19,8 +19,7 @@ loop-i-init c = (omega arith, refl, refl)
 
 pub loop-i-preserved : goal.loop-i-preserved
 loop-i-preserved c =
-    let l = c in
-    (omega arith, simp length-set (omega arith), over-turn _ l.args.out.now _ l.loop-i.invariant.2 (omega arith) (omega arith))
+    (omega arith, simp length-set (omega arith), over-turn _ c.args.out.now _ c.loop-i.invariant.2 (omega arith) (omega arith))
 
 pub returns : goal.returns
 returns c = rw (c.loop-i.invariant.2, take_all _ _ c.loop-i-test.false) (search tests)

@@ -7,18 +7,15 @@ use Rattle.text.proofs.not_digits.Goals as goal
 
 pub returns-then-digit_value-eq16 : goal.returns-then-digit_value-eq16
 returns-then-digit_value-eq16 c =
-    let l = c in
-    no_digit l.args.word.now l.loop-i.i _ (omega arith) c.digit_value.ensures.0 c.if-digit_value-eq16.true ∙ l.loop-i.invariant.1
+    no_digit c.args.word.now c.loop-i.i _ (omega arith) c.digit_value.ensures.0 c.if-digit_value-eq16.true ∙ c.loop-i.invariant.1
 
 pub loop-i-preserved : goal.loop-i-preserved
 loop-i-preserved c =
-    let l = c in
-    (omega arith, sym (one-digit l.args.word.now l.loop-i.i _ (omega arith) c.digit_value.ensures.0 c.if-digit_value-eq16.false) ∙ l.loop-i.invariant.1)
+    (omega arith, sym (one-digit c.args.word.now c.loop-i.i _ (omega arith) c.digit_value.ensures.0 c.if-digit_value-eq16.false) ∙ c.loop-i.invariant.1)
 
 pub returns : goal.returns
 returns c =
-    let l = c in
-    digits-end l.args.word.now l.loop-i.i (omega arith) ∙ l.loop-i.invariant.1
+    digits-end c.args.word.now c.loop-i.i (omega arith) ∙ c.loop-i.invariant.1
 
 pub loop-i-init : goal.loop-i-init
 loop-i-init c = (omega arith, refl)

@@ -25,16 +25,14 @@ bounds-out-i-in-loop-i c = simp length-set (omega arith)
 
 pub loop-i-preserved : goal.loop-i-preserved
 loop-i-preserved c =
-    let l = c in
-    let a = l.args in (
+    let a = c.args in (
       omega arith,
       simp length-set (omega arith),
-      pairs-turn a.bytes.now a.out.now l.loop-i.out l.loop-i.i _ _ l.loop-i.invariant.2 (omega arith) (omega arith) c.hex_digit.ensures c.hex_digit-in-loop-i.ensures,
+      pairs-turn a.bytes.now a.out.now c.loop-i.out c.loop-i.i _ _ c.loop-i.invariant.2 (omega arith) (omega arith) c.hex_digit.ensures c.hex_digit-in-loop-i.ensures,
     )
 
 pub returns : goal.returns
 returns c =
-    let l = c in
-    let a = l.args in
+    let a = c.args in
     let n = length_pairs a.bytes.now in
-    rw (l.loop-i.invariant.2, take_all l.loop-i.i a.bytes.now (omega arith), n) (above _ _ _ _ _ (omega arith) refl)
+    rw (c.loop-i.invariant.2, take_all c.loop-i.i a.bytes.now (omega arith), n) (above _ _ _ _ _ (omega arith) refl)

@@ -15,40 +15,32 @@ overflow_cast-digit c = omega arith
 
 pub returns-then-base-digit : goal.returns-then-base-digit
 returns-then-base-digit c =
-    let l = c in
-    let a = l.args in
-    digit-bad a.base l.loop-i.n a.word.now l.loop-i.i _ (omega arith) c.digit_value-digit.ensures.0 (omega arith) ∙ l.loop-i.invariant.2
+    let a = c.args in
+    digit-bad a.base c.loop-i.n a.word.now c.loop-i.i _ (omega arith) c.digit_value-digit.ensures.0 (omega arith) ∙ c.loop-i.invariant.2
 
 pub overflow_mul-n : goal.overflow_mul-n
 overflow_mul-n c =
-    let l = c in
-    let a = l in
-    let h = below-36 a.args.base l.loop-i.n (omega arith) (omega arith) in omega arith
+    let h = below-36 c.args.base c.loop-i.n (omega arith) (omega arith) in omega arith
 
 pub overflow_add-n : goal.overflow_add-n
 overflow_add-n c =
-    let l = c in
-    let a = l in
-    let h = below-36 a.args.base l.loop-i.n (omega arith) (omega arith) in omega arith
+    let h = below-36 c.args.base c.loop-i.n (omega arith) (omega arith) in omega arith
 
 pub returns-then-n-gt4294967295 : goal.returns-then-n-gt4294967295
 returns-then-n-gt4294967295 c =
-    let l = c in
-    let a = l.args in
+    let a = c.args in
     too_large_lem a.base _ _ (omega arith) (omega arith)
-    ∙ ap small (sym (digit-more a.base l.loop-i.n a.word.now l.loop-i.i _ (omega arith) c.digit_value-digit.ensures.0 (omega arith))) ∙ l.loop-i.invariant.2
+    ∙ ap small (sym (digit-more a.base c.loop-i.n a.word.now c.loop-i.i _ (omega arith) c.digit_value-digit.ensures.0 (omega arith))) ∙ c.loop-i.invariant.2
 
 pub loop-i-preserved : goal.loop-i-preserved
 loop-i-preserved c =
-    let l = c in
-    let a = l.args in (
+    let a = c.args in (
       omega arith,
       omega arith,
-      ap small (sym (digit-more a.base l.loop-i.n a.word.now l.loop-i.i _ (omega arith) c.digit_value-digit.ensures.0 (omega arith))) ∙ l.loop-i.invariant.2,
+      ap small (sym (digit-more a.base c.loop-i.n a.word.now c.loop-i.i _ (omega arith) c.digit_value-digit.ensures.0 (omega arith))) ∙ c.loop-i.invariant.2,
     )
 
 pub returns : goal.returns
 returns c =
-    let l = c in
-    let a = l.args in
-    number-end a.base l.loop-i.n a.word.now l.loop-i.i (omega arith) (omega arith) ∙ l.loop-i.invariant.2
+    let a = c.args in
+    number-end a.base c.loop-i.n a.word.now c.loop-i.i (omega arith) (omega arith) ∙ c.loop-i.invariant.2

@@ -26,32 +26,28 @@ loop-i-init c = (omega arith, refl, sym c.not_digits.ensures ∙ c.if-not_digits
 
 pub overflow_mul-out : goal.overflow_mul-out
 overflow_mul-out c =
-    let l = c in
-    let word = l.args.word.now in
-    omega (arith, digit_at word (2 * l.loop-i.i) l.loop-i.invariant.2 (omega arith), c.digit_value.ensures.0)
+    let word = c.args.word.now in
+    omega (arith, digit_at word (2 * c.loop-i.i) c.loop-i.invariant.2 (omega arith), c.digit_value.ensures.0)
 
 pub overflow_add-out : goal.overflow_add-out
 overflow_add-out c =
-    let l = c in
-    let word = l.args.word.now in
+    let word = c.args.word.now in
     let one = c.digit_value.ensures in
-    omega (arith, digit_at word (2 * l.loop-i.i) l.loop-i.invariant.2 (omega arith), digit_at word (2 * l.loop-i.i + 1) l.loop-i.invariant.2 (omega arith), one.0, c.digit_value-in-loop-i.ensures.0)
+    omega (arith, digit_at word (2 * c.loop-i.i) c.loop-i.invariant.2 (omega arith), digit_at word (2 * c.loop-i.i + 1) c.loop-i.invariant.2 (omega arith), one.0, c.digit_value-in-loop-i.ensures.0)
 
 pub loop-i-preserved : goal.loop-i-preserved
 loop-i-preserved c =
-    let l = c in
-    let a = l.args in
+    let a = c.args in
     let word = a.word.now in
     let n = length-pairs-in word in
-    let byte = pair-at word l.loop-i.i (omega arith) in (
+    let byte = pair-at word c.loop-i.i (omega arith) in (
       omega arith,
       simp length-set (omega arith),
-      l.loop-i.invariant.2,
-      pair_turn (pairs_in word) a.out.now l.loop-i.out l.loop-i.i _ l.loop-i.invariant.3 (omega arith) (omega arith) (rw (byte, ← c.digit_value.ensures.0, ← c.digit_value-in-loop-i.ensures.0)),
+      c.loop-i.invariant.2,
+      pair_turn (pairs_in word) a.out.now c.loop-i.out c.loop-i.i _ c.loop-i.invariant.3 (omega arith) (omega arith) (rw (byte, ← c.digit_value.ensures.0, ← c.digit_value-in-loop-i.ensures.0)),
     )
 
 pub returns : goal.returns
 returns c =
-    let l = c in
-    let word = l.args.word.now in
-    rw (l.loop-i.invariant.2, l.loop-i.invariant.3, take_all l.loop-i.i (pairs_in word) (omega (arith, length-pairs-in word))) (search tests)
+    let word = c.args.word.now in
+    rw (c.loop-i.invariant.2, c.loop-i.invariant.3, take_all c.loop-i.i (pairs_in word) (omega (arith, length-pairs-in word))) (search tests)

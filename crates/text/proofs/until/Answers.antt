@@ -6,23 +6,20 @@ use Rattle.text.proofs.until.Goals as goal
 
 pub returns-then-text-i : goal.returns-then-text-i
 returns-then-text-i c =
-    let l = c in
-    let a = l.args in
-    let e = until-here a.byte a.text.now l.loop-i.i (omega arith) c.if-text-i.true in
+    let a = c.args in
+    let e = until-here a.byte a.text.now c.loop-i.i (omega arith) c.if-text-i.true in
     (omega arith, omega arith)
 
 pub loop-i-preserved : goal.loop-i-preserved
 loop-i-preserved c =
-    let l = c in
-    let a = l.args in
-    let e = until-later a.byte a.text.now l.loop-i.i (omega arith) c.if-text-i.false in
+    let a = c.args in
+    let e = until-later a.byte a.text.now c.loop-i.i (omega arith) c.if-text-i.false in
     (omega arith, omega arith)
 
 pub returns : goal.returns
 returns c =
-    let l = c in
-    let a = l.args in
-    let e = until_end a.byte a.text.now l.loop-i.i (omega arith) in
+    let a = c.args in
+    let e = until_end a.byte a.text.now c.loop-i.i (omega arith) in
     (omega arith, omega arith)
 
 pub loop-i-init : goal.loop-i-init

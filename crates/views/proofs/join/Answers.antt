@@ -17,13 +17,10 @@ returns-then-out-n c = rw length-append (above _ _ _ _ _ (omega arith) (same _ _
 
 pub returns : goal.returns
 returns c =
-    let second = c in
-    let first = second in
-    let tested = first in
-    let a = tested.args in
+    let a = c.args in
     let p = a.first.now in
     let q = a.second.now in
     let l = a.out.now in
-    let head = put-over p l first.put.ensures (omega arith) in
-    let whole = put_rest p l head q (length p) second.put-2.ensures refl (omega arith) in
-    rw (whole, ← length-append p q) (above _ _ _ _ _ (omega arith) (same _ _ _ _ _ tested.if-next-base.false (above _ _ _ _ _ (rw length-append (omega arith)) refl)))
+    let head = put-over p l c.put.ensures (omega arith) in
+    let whole = put_rest p l head q (length p) c.put-2.ensures refl (omega arith) in
+    rw (whole, ← length-append p q) (above _ _ _ _ _ (omega arith) (same _ _ _ _ _ c.if-next-base.false (above _ _ _ _ _ (rw length-append (omega arith)) refl)))

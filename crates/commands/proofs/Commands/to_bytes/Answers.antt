@@ -3,4 +3,4 @@ use Rattle.fields.proofs.Rows.{encoded-padded}
 use Rattle.commands.proofs.Commands.to_bytes.Goals as goal
 
 pub returns : goal.returns
-returns c = let put = c in rw (put.write.ensures, put.command_row.ensures, encoded-padded)
+returns c = rw (c.write.ensures, c.command_row.ensures, encoded-padded)

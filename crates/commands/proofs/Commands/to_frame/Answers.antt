@@ -3,4 +3,4 @@ use Rattle.fields.proofs.Rows.{encoded-padded}
 use Rattle.commands.proofs.Commands.to_frame.Goals as goal
 
 pub returns : goal.returns
-returns c = let put = c in rw (put.frame.ensures, put.command_row.ensures, encoded-padded)
+returns c = rw (c.frame.ensures, c.command_row.ensures, encoded-padded)

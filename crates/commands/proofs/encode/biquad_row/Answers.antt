@@ -18,9 +18,4 @@ all c = search rules
 pub returns : goal.returns
 unfolding fields_of nothings padded filler
 returns c =
-    let v4 = c in
-    let v3 = v4 in
-    let v2 = v3 in
-    let v1 = v2 in
-    let start = v1 in
-    rw (five filler start.args.t2 (all start), v1.coded.ensures, v2.coded-2.ensures, v3.coded-3.ensures, v4.coded-4.ensures, c.coded-5.ensures)
+    rw (five filler c.args.t2 (all c), c.coded.ensures, c.coded-2.ensures, c.coded-3.ensures, c.coded-4.ensures, c.coded-5.ensures)

@@ -5,7 +5,6 @@ use Rattle.device.proofs.effect.word_of.Goals as goal
 
 pub returns : goal.returns
 returns c =
-    let into = c in
-    let a = into.args in
-    let p = into.requires in
-    rw (← value-whole a.value a.payload.now _ p.0 p.1 into.into_bytes.ensures) (search rules)
+    let a = c.args in
+    let p = c.requires in
+    rw (← value-whole a.value a.payload.now _ p.0 p.1 c.into_bytes.ensures) (search rules)

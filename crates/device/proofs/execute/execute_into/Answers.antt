@@ -5,4 +5,4 @@ pub returns-then-too_large : goal.returns-then-too_large
 returns-then-too_large c = rw (← c.too_large.ensures, c.if-too_large.true)
 
 pub returns : goal.returns
-returns c = let answer = c in let sized = answer in rw (← sized.too_large.ensures, sized.if-too_large.false) answer.answer_into.ensures
+returns c = rw (← c.too_large.ensures, c.if-too_large.false) c.answer_into.ensures

@@ -5,10 +5,10 @@ use native.Mathlib.Omega.{arith}
 use Rattle.device.proofs.execute.put_data.Goals as goal
 
 pub put_memory-requires : goal.put_memory-requires
-put_memory-requires c = let r = c in let p = r.requires in (rw r.in-MemoryData.is at p.0, p.1)
+put_memory-requires c = let p = c.requires in (rw c.in-MemoryData.is at p.0, p.1)
 
 pub put_words-requires : goal.put_words-requires
-put_words-requires c = let r = c in let p = r.requires in (omega arith, rw r.in-FloatData.is at p.0, p.1)
+put_words-requires c = let p = c.requires in (omega arith, rw c.in-FloatData.is at p.0, p.1)
 
 pub returns-in-Ack : goal.returns-in-Ack
 returns-in-Ack c = rw c.in-Ack.is (refl, over_nothing _)

@@ -6,19 +6,16 @@ use lib.ListN.{length}
 use Rattle.device.proofs.execute.put_memory.Goals as goal
 
 pub slice_bounds-put-count-2 : goal.slice_bounds-put-count-2
-slice_bounds-put-count-2 c = let part = c in omega (arith, found-le part.args.eeprom.now part.args.base part.taken-len.result part.part-part.ensures, part.taken-len.ensures.1)
+slice_bounds-put-count-2 c = omega (arith, found-le c.args.eeprom.now c.args.base c.taken-len.result c.part-part.ensures, c.taken-len.ensures.1)
 
 pub slice_bounds-put-start-2 : goal.slice_bounds-put-start-2
-slice_bounds-put-start-2 c = let part = c in omega (arith, found-le part.args.eeprom.now part.args.base part.taken-len.result part.part-part.ensures, part.taken-len.ensures.1)
+slice_bounds-put-start-2 c = omega (arith, found-le c.args.eeprom.now c.args.base c.taken-len.result c.part-part.ensures, c.taken-len.ensures.1)
 
 pub returns : goal.returns
 returns c =
-    let first = c in
-    let part = first in
-    let taken = part.taken-len.ensures in
-    let start = part in
-    let a = start.args in
-    let room : a.size ≤ length a.«data».now = omega (arith, start.requires) in (
-      memory-length a.eeprom.now a.«data».now a.base a.size taken.0 taken.1 room part.part-part.ensures,
-      memory-put a.eeprom.now a.«data».now a.base a.size taken.0 taken.1 room part.part-part.ensures first.put.ensures (first_of (a.size - part.taken-len.result) 1020 255 (omega (arith, start.requires))) c.put-2.ensures,
+    let taken = c.taken-len.ensures in
+    let a = c.args in
+    let room : a.size ≤ length a.«data».now = omega (arith, c.requires) in (
+      memory-length a.eeprom.now a.«data».now a.base a.size taken.0 taken.1 room c.part-part.ensures,
+      memory-put a.eeprom.now a.«data».now a.base a.size taken.0 taken.1 room c.part-part.ensures c.put.ensures (first_of (a.size - c.taken-len.result) 1020 255 (omega (arith, c.requires))) c.put-2.ensures,
     )

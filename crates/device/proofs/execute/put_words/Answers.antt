@@ -14,32 +14,26 @@ loop-i-init c = (omega arith, omega arith, refl, over_nothing _)
 
 pub returns-then-settings-base : goal.returns-then-settings-base
 returns-then-settings-base c =
-    let l = c in
-    let a = l.args in
+    let a = c.args in
     let d = drop a.base a.settings.now in
-    let end = words-all l.loop-i.i d l.loop-i.invariant.1 a.count l.loop-i.invariant.0 (omega (arith, length-drop a.base a.settings.now, c.if-settings-base.true)) in
-    words-finish l.loop-i.i d l.loop-i.invariant.1 a.count a.«data».now end l.loop-i.invariant.3
+    let end = words-all c.loop-i.i d c.loop-i.invariant.1 a.count c.loop-i.invariant.0 (omega (arith, length-drop a.base a.settings.now, c.if-settings-base.true)) in
+    words-finish c.loop-i.i d c.loop-i.invariant.1 a.count a.«data».now end c.loop-i.invariant.3
 
 pub loop-i-smaller : goal.loop-i-smaller
 loop-i-smaller c = omega arith
 
 pub loop-i-preserved : goal.loop-i-preserved
 loop-i-preserved c =
-    let put = c in
-    let word = put in
-    let test = word in
-    let l = test in
-    let a = l.args in
+    let a = c.args in
     let d = drop a.base a.settings.now in
-    let more : l.loop-i.i < length d = omega (arith, length-drop a.base a.settings.now, test.if-settings-base.false) in
-    let room : l.loop-i.i * 4 + 4 ≤ length a.«data».now = omega arith in
-    let wrote = words-next l.loop-i.i d a.«data».now more room l.loop-i.invariant.3 (word.little_bytes32-bytes.ensures ∙ ap (little_bytes 4) (sym (get_or-drop a.base a.settings.now l.loop-i.i 0))) put.put.ensures in
-    (omega arith, omega arith, ap length wrote ∙ words-room l.loop-i.i d a.«data».now more room, wrote)
+    let more : c.loop-i.i < length d = omega (arith, length-drop a.base a.settings.now, c.if-settings-base.false) in
+    let room : c.loop-i.i * 4 + 4 ≤ length a.«data».now = omega arith in
+    let wrote = words-next c.loop-i.i d a.«data».now more room c.loop-i.invariant.3 (c.little_bytes32-bytes.ensures ∙ ap (little_bytes 4) (sym (get_or-drop a.base a.settings.now c.loop-i.i 0))) c.put.ensures in
+    (omega arith, omega arith, ap length wrote ∙ words-room c.loop-i.i d a.«data».now more room, wrote)
 
 pub returns : goal.returns
 returns c =
-    let l = c in
-    let a = l.args in
+    let a = c.args in
     let d = drop a.base a.settings.now in
-    let same : a.count ≡ l.loop-i.i = omega (arith, c.loop-i-test.false) in
-    words-finish l.loop-i.i d l.loop-i.invariant.1 a.count a.«data».now (ap (λ (n : ℕ). take n d) same) l.loop-i.invariant.3
+    let same : a.count ≡ c.loop-i.i = omega (arith, c.loop-i-test.false) in
+    words-finish c.loop-i.i d c.loop-i.invariant.1 a.count a.«data».now (ap (λ (n : ℕ). take n d) same) c.loop-i.invariant.3

@@ -5,7 +5,7 @@ pub returns-then-too_large : goal.returns-then-too_large
 returns-then-too_large c = rw (← c.too_large.ensures, c.if-too_large.true)
 
 pub returns-in-Packet : goal.returns-in-Packet
-returns-in-Packet c = let call = c in let part = call in let got = part in let sized = got in rw (← sized.too_large.ensures, sized.if-too_large.false, ← got.unframe.ensures, got.in-Packet.is, ← part.part.ensures) call.receive_packet.ensures
+returns-in-Packet c = rw (← c.too_large.ensures, c.if-too_large.false, ← c.unframe.ensures, c.in-Packet.is, ← c.part.ensures) c.receive_packet.ensures
 
 pub returns-in-Refused : goal.returns-in-Refused
-returns-in-Refused c = let sized = c in rw (← sized.too_large.ensures, sized.if-too_large.false, ← c.unframe.ensures, c.in-Refused.is)
+returns-in-Refused c = rw (← c.too_large.ensures, c.if-too_large.false, ← c.unframe.ensures, c.in-Refused.is)

@@ -6,7 +6,7 @@ use Rattle.fields.proofs.Addrs.{length-addr, right-length}
 use Rattle.fields.proofs.row.field_len.Goals as goal
 
 pub value_len-requires : goal.value_len-requires
-value_len-requires c = let f = c in rw f.in-Coded.is at f.requires.placed
+value_len-requires c = rw c.in-Coded.is at c.requires.placed
 
 pub returns-in-Nothing : goal.returns-in-Nothing
 returns-in-Nothing c = rw c.in-Nothing.is
@@ -19,15 +19,14 @@ returns-in-Word c = rw (c.in-Word.is, length-big)
 
 pub returns-in-Address : goal.returns-in-Address
 returns-in-Address c =
-    let f = c in
-    let few = right-length _ (rw f.in-Address.is at f.requires.addressed) in
-    rw (f.in-Address.is, length-addr) (omega arith)
+    let few = right-length _ (rw c.in-Address.is at c.requires.addressed) in
+    rw (c.in-Address.is, length-addr) (omega arith)
 
 pub returns-in-Coded : goal.returns-in-Coded
 returns-in-Coded c = rw (c.value_len.ensures, c.in-Coded.is)
 
 pub returns-in-Payload : goal.returns-in-Payload
-returns-in-Payload c = let f = c in rw (c.capped.ensures, f.in-Payload.is, length_part _ _ (was-inside _ _ (rw f.in-Payload.is at f.requires.placed)))
+returns-in-Payload c = rw (c.capped.ensures, c.in-Payload.is, length_part _ _ (was-inside _ _ (rw c.in-Payload.is at c.requires.placed)))
 
 pub returns-in-Floats : goal.returns-in-Floats
-returns-in-Floats c = let f = c in rw (c.floats_len.ensures, f.in-Floats.is, length_part _ _ (was-inside _ _ (rw f.in-Floats.is at f.requires.placed)))
+returns-in-Floats c = rw (c.floats_len.ensures, c.in-Floats.is, length_part _ _ (was-inside _ _ (rw c.in-Floats.is at c.requires.placed)))

@@ -7,4 +7,4 @@ pub overflow_mul-len : goal.overflow_mul-len
 overflow_mul-len c = omega (arith, was-inside _ _ c.requires)
 
 pub returns : goal.returns
-returns c = let put = c in rw put.part.ensures at put.copy.ensures
+returns c = rw c.part.ensures at c.copy.ensures

@@ -9,13 +9,12 @@ unfolding packet_of
 loop-i-init c = (omega arith, search rules, refl)
 
 pub field_len-n-requires : goal.field_len-n-requires
-field_len-n-requires c = let l = c in sound-at _ _ l.loop-i.i l.requires (omega arith)
+field_len-n-requires c = sound-at _ _ c.loop-i.i c.requires (omega arith)
 
 pub loop-i-preserved : goal.loop-i-preserved
 loop-i-preserved c =
-    let l = c in
-    let a = l.args in
-    (omega arith, l.loop-i.invariant.1, rw (packet-length a.payload.now a.t1 l.loop-i.i (omega arith)) (omega (arith, c.capped-total.ensures, c.field_len-n.ensures, l.loop-i.invariant.2)))
+    let a = c.args in
+    (omega arith, c.loop-i.invariant.1, rw (packet-length a.payload.now a.row c.loop-i.i (omega arith)) (omega (arith, c.capped-total.ensures, c.field_len-n.ensures, c.loop-i.invariant.2)))
 
 pub returns : goal.returns
 returns c = c.loop-i.invariant.2 ∙ ap (λ (l : List ℕ). min 255 (length l)) (packet-all _ _ c.loop-i.i (omega arith))

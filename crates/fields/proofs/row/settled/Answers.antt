@@ -20,13 +20,12 @@ row_len-n-requires c = record { addressed = sym c.any_misaddressed.ensures ∙ c
 
 pub returns-then-n-gt-LONGEST_PACKET : goal.returns-then-n-gt-LONGEST_PACKET
 unfolding encoded_of
-returns-then-n-gt-LONGEST_PACKET c = let p = c in rw (← p.any_misaddressed.ensures, p.if-any_misaddressed.false, ← p.any_misplaced.ensures, c.if-any_misplaced.false) (ap encoded_length (below _ _ _ _ _ (omega (arith, c.row_len-n.ensures)) refl))
+returns-then-n-gt-LONGEST_PACKET c = rw (← c.any_misaddressed.ensures, c.if-any_misaddressed.false, ← c.any_misplaced.ensures, c.if-any_misplaced.false) (ap encoded_length (below _ _ _ _ _ (omega (arith, c.row_len-n.ensures)) refl))
 
 pub returns : goal.returns
 unfolding encoded_of
 returns c =
-    let p = c in
-    let a = p.args in
+    let a = c.args in
     let n : c.row_len-n.result ≡ length (packet_of a.payload.now (fields_of a.row)) = omega (arith, c.row_len-n.ensures) in
-    rw (← p.any_misaddressed.ensures, p.if-any_misaddressed.false, ← p.any_misplaced.ensures, c.if-any_misplaced.false)
+    rw (← c.any_misaddressed.ensures, c.if-any_misaddressed.false, ← c.any_misplaced.ensures, c.if-any_misplaced.false)
     (ap accepted n ∙ ap encoded_length (above _ _ _ _ _ (omega (arith, c.row_len-n.ensures)) refl))

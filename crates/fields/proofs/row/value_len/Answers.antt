@@ -16,4 +16,4 @@ pub returns-in-Int32 : goal.returns-in-Int32
 returns-in-Int32 c = rw (c.in-Int32.is, length-big)
 
 pub returns-in-Unknown : goal.returns-in-Unknown
-returns-in-Unknown c = let v = c in let start = v in rw (c.capped.ensures, v.in-Unknown.is, length_part _ _ (was-inside _ _ (rw v.in-Unknown.is at start.requires)))
+returns-in-Unknown c = rw (c.capped.ensures, c.in-Unknown.is, length_part _ _ (was-inside _ _ (rw c.in-Unknown.is at c.requires)))

@@ -17,12 +17,10 @@ returns-then-out-end c = above _ _ _ _ _ (omega arith) (rw length-export (below 
 pub returns : goal.returns
 unfolding export_of export_room rows_for
 returns c =
-    let second = c in
-    let first = second in
-    let a = first.args in
+    let a = c.args in
     let eeprom = a.eeprom.now in
     let l = a.out.now in
     let e = length eeprom in
     let end : ℕ = 2 * e + 12 * rows_for e in
-    let whole = put_rest (export_rows eeprom (rows_for e)) l first.put_rows.ensures (end_text ++ (10 ∷ [])) end second.put.ensures (sym (rows_whole eeprom)) (omega arith) in
+    let whole = put_rest (export_rows eeprom (rows_for e)) l c.put_rows.ensures (end_text ++ (10 ∷ [])) end c.put.ensures (sym (rows_whole eeprom)) (omega arith) in
     rw (whole, length-export eeprom) (above _ _ _ _ _ (omega arith) (above _ _ _ _ _ (omega arith) refl))

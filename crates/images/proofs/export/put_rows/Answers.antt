@@ -16,14 +16,12 @@ loop-k-smaller c = omega arith
 
 pub loop-k-preserved : goal.loop-k-preserved
 loop-k-preserved c =
-    let put = c in
-    let l = put in
-    let a = l.args in
+    let a = c.args in
     let e = a.eeprom.now in
-    let k = l.loop-k.k in
+    let k = c.loop-k.k in
     let is : 44 * k ≡ length (export_rows e k) = omega (arith, length-rows e k) in
     let room : 44 * k + length (export_line e k) ≤ length a.out.now = omega (arith, length-line e k) in
-    (omega arith, rows_next e k (44 * k) a.out.now is room l.loop-k.invariant.1.1 put.put_row.ensures)
+    (omega arith, rows_next e k (44 * k) a.out.now is room c.loop-k.invariant.1.1 c.put_row.ensures)
 
 pub returns : goal.returns
 returns c = let all : c.args.rows ≡ c.loop-k.k = omega (arith, c.loop-k-test.false) in rw all c.loop-k.invariant.1.1

@@ -9,21 +9,18 @@ loop-rest-init c = (refl, refl)
 
 pub loop-rest-smaller : goal.loop-rest-smaller
 loop-rest-smaller c =
-    let call = c in
-    let l = call.loop-rest in
-    let row = rw (call.line_of.ensures, c.loop-rest-test.true) at call.place_line.ensures in
+    let l = c.loop-rest in
+    let row = rw (c.line_of.ensures, c.loop-rest-test.true) at c.place_line.ensures in
     rw (cut-behind _ _ c.line_end-n.ensures.1) (placed-some l.rest.now l.image _ row)
 
 pub loop-rest-preserved : goal.loop-rest-preserved
 loop-rest-preserved c =
-    let call = c in
-    let l = call.loop-rest in
-    let row = rw (call.line_of.ensures, c.loop-rest-test.true) at call.place_line.ensures in
-    (call.place_line.auto.1.0 ∙ l.invariant.0, rw (cut-behind _ _ c.line_end-n.ensures.1) (sym (placed-more l.rest.now l.image _ row) ∙ l.invariant.1))
+    let l = c.loop-rest in
+    let row = rw (c.line_of.ensures, c.loop-rest-test.true) at c.place_line.ensures in
+    (c.place_line.auto.1.0 ∙ l.invariant.0, rw (cut-behind _ _ c.line_end-n.ensures.1) (sym (placed-more l.rest.now l.image _ row) ∙ l.invariant.1))
 
 pub returns : goal.returns
 returns c =
-    let call = c in
-    let l = call.loop-rest in
-    let last = rw (call.line_of.ensures, c.loop-rest-test.false) at call.place_line.ensures in
+    let l = c.loop-rest in
+    let last = rw (c.line_of.ensures, c.loop-rest-test.false) at c.place_line.ensures in
     placed-last l.rest.now l.image _ last ∙ l.invariant.1

@@ -5,36 +5,27 @@ use Rattle.images.proofs.judge.judge_line.Goals as goal
 
 pub returns-then-n-rest : goal.returns-then-n-rest
 returns-then-n-rest c =
-    let look = c in
-    let until = look in
-    let a = until.args in
-    let told = rw look.line_of.ensures at look.look_at-line.ensures in
-    rw c.last_line.ensures (last_step_lem a.size a.rest.now _ _ (sym until.until-n.ensures.0 ∙ c.if-n-rest.true) look.look_at-line.result told)
+    let a = c.args in
+    let told = rw c.line_of.ensures at c.look_at-line.ensures in
+    rw c.last_line.ensures (last_step_lem a.size a.rest.now _ _ (sym c.until-n.ensures.0 ∙ c.if-n-rest.true) c.look_at-line.result told)
 
 pub returns-in-Row : goal.returns-in-Row
 returns-in-Row c =
     let fit = c.judge_row in
     let line = c.line-1 in
-    let test = c in
-    let look = test in
-    let until = look in
-    let a = until.args in
-    let told = rw (look.line_of.ensures, line.given.1) at look.look_at-line.ensures in
+    let a = c.args in
+    let told = rw (c.line_of.ensures, line.given.1) at c.look_at-line.ensures in
     let says = told-row _ _ _ told in
-    row_step a.size a.rest.now a.marks.now fit.new.1.1.1.0 (omega (arith, until.until-n.ensures.0, until.until-n.ensures.1, test.if-n-rest.false)) (omega arith) says.row says.is fit.result (rw (says.starts, says.counts) fit.ensures)
+    row_step a.size a.rest.now a.marks.now fit.new.1.1.1.0 (omega (arith, c.until-n.ensures.0, c.until-n.ensures.1, c.if-n-rest.false)) (omega arith) says.row says.is fit.result (rw (says.starts, says.counts) fit.ensures)
 
 pub returns-in-End : goal.returns-in-End
 returns-in-End c =
-    let look = c in
-    let until = look in
-    let a = until.args in
-    let told = rw (look.line_of.ensures, c.in-End.is) at look.look_at-line.ensures in
-    rw (c.end_line.ensures, until.until-n.ensures.0) (end_step a.size a.rest.now _ _ (omega (arith, until.until-n.ensures.0, until.until-n.ensures.1, c.if-n-rest.false)) (told-end _ told))
+    let a = c.args in
+    let told = rw (c.line_of.ensures, c.in-End.is) at c.look_at-line.ensures in
+    rw (c.end_line.ensures, c.until-n.ensures.0) (end_step a.size a.rest.now _ _ (omega (arith, c.until-n.ensures.0, c.until-n.ensures.1, c.if-n-rest.false)) (told-end _ told))
 
 pub returns-in-Refused : goal.returns-in-Refused
 returns-in-Refused c =
-    let look = c in
-    let until = look in
-    let a = until.args in
-    let told = rw (look.line_of.ensures, c.in-Refused.is) at look.look_at-line.ensures in
-    fault-step a.size a.rest.now a.marks.now a.marks.now (omega (arith, until.until-n.ensures.0, until.until-n.ensures.1, c.if-n-rest.false)) _ (told-fault _ _ told)
+    let a = c.args in
+    let told = rw (c.line_of.ensures, c.in-Refused.is) at c.look_at-line.ensures in
+    fault-step a.size a.rest.now a.marks.now a.marks.now (omega (arith, c.until-n.ensures.0, c.until-n.ensures.1, c.if-n-rest.false)) _ (told-fault _ _ told)

@@ -14,28 +14,24 @@ judge_line-requires c = (search rules, c.loop-k.invariant.2.0)
 
 pub returns-in-End : goal.returns-in-End
 returns-in-End c =
-    let call = c in
-    let inv = call.loop-k.invariant in
-    let ends = rw c.in-End.is at call.judge_line.ensures in
+    let inv = c.loop-k.invariant in
+    let ends = rw c.in-End.is at c.judge_line.ensures in
     rw (← inv.3, ends inv.1 inv.2)
 
 pub returns-in-Refused : goal.returns-in-Refused
 returns-in-Refused c =
-    let call = c in
-    let inv = call.loop-k.invariant in
-    let bad = rw c.in-Refused.is at call.judge_line.ensures in
+    let inv = c.loop-k.invariant in
+    let bad = rw c.in-Refused.is at c.judge_line.ensures in
     rw (← inv.3, bad inv.1 inv.2)
 
 pub loop-k-smaller : goal.loop-k-smaller
 loop-k-smaller c =
-    let call = c in
-    let more = rw c.in-Row.is at call.judge_line.ensures in
+    let more = rw c.in-Row.is at c.judge_line.ensures in
     rw (cut-behind _ _ c.line_end-n.ensures.1) more.0
 
 pub loop-k-preserved : goal.loop-k-preserved
 loop-k-preserved c =
-    let call = c in
-    let inv = call.loop-k.invariant in
-    let more = rw c.in-Row.is at call.judge_line.ensures in
+    let inv = c.loop-k.invariant in
+    let more = rw c.in-Row.is at c.judge_line.ensures in
     let next = more.1 inv.1 inv.2 in
-    (call.judge_line.auto.1.1.0 ∙ inv.0, inv.1 ++ (next.0 ∷ []), next.1, rw (cut-behind _ _ c.line_end-n.ensures.1) (sym next.2 ∙ inv.3))
+    (c.judge_line.auto.1.1.0 ∙ inv.0, inv.1 ++ (next.0 ∷ []), next.1, rw (cut-behind _ _ c.line_end-n.ensures.1) (sym next.2 ∙ inv.3))

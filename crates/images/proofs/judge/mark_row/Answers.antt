@@ -21,21 +21,19 @@ mark-requires c = (omega arith, omega arith)
 
 pub returns-then-mark : goal.returns-then-mark
 returns-then-mark c =
-    let l = c in
     let marked = rw c.if-mark.true at c.mark.ensures in
-    (l.loop-place.place, omega arith, omega arith, sym (one_outside _ l.loop-place.place l.loop-place.place _ (λ h g. omega arith)) ∙ sym (l.loop-place.invariant.4 l.loop-place.place) ∙ marked)
+    (c.loop-place.place, omega arith, omega arith, sym (one_outside _ c.loop-place.place c.loop-place.place _ (λ h g. omega arith)) ∙ sym (c.loop-place.invariant.4 c.loop-place.place) ∙ marked)
 
 pub loop-place-preserved : goal.loop-place-preserved
 loop-place-preserved c =
-    let l = c in
-    let p = l.loop-place.place in
+    let p = c.loop-place.place in
     let one = rw c.if-mark.false at c.mark.ensures in
-    let was = sym (one_outside _ p p _ (λ h g. omega arith)) ∙ sym (l.loop-place.invariant.4 p) ∙ one.0 in (
+    let was = sym (one_outside _ p p _ (λ h g. omega arith)) ∙ sym (c.loop-place.invariant.4 p) ∙ one.0 in (
       omega arith,
       omega arith,
-      one.1 ∙ l.loop-place.invariant.2,
-      (λ i h g. earlier l.args.start p l.args.marks.now l.loop-place.invariant.3 was i h g),
-      λ i. one.2 i ∙ rw (l.loop-place.invariant.4 i) (one_further l.args.start p i _ (omega arith)),
+      one.1 ∙ c.loop-place.invariant.2,
+      (λ i h g. earlier c.args.start p c.args.marks.now c.loop-place.invariant.3 was i h g),
+      λ i. one.2 i ∙ rw (c.loop-place.invariant.4 i) (one_further c.args.start p i _ (omega arith)),
     )
 
 pub returns : goal.returns

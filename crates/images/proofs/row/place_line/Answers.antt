@@ -6,9 +6,8 @@ pub returns-in-Row : goal.returns-in-Row
 returns-in-Row c =
     let put = c.put_at in
     let told = c.start-1 in
-    let read = c in
-    let a = read.args in
-    row-placed a.line.now read.read_line.new.1.0 a.image.now _ _ _ (rw told.given.1 at read.read_line.ensures.0) put.ensures
+    let a = c.args in
+    row-placed a.line.now c.read_line.new.1.0 a.image.now _ _ _ (rw told.given.1 at c.read_line.ensures.0) put.ensures
 
 pub returns-in-End : goal.returns-in-End
 returns-in-End c = rw (← c.read_line.ensures.0, c.in-End.is)

@@ -23,28 +23,22 @@ slice_bounds-read_pairs-start c = colon-first c.args.line.now (sym c.byte.ensure
 
 pub slice_bounds-record_of-end : goal.slice_bounds-record_of-end
 slice_bounds-record_of-end c =
-    let read = c in
-    let first = read in
-    let a = first.args in
-    let colon = sym first.byte.ensures ∙ first.if-byte-ne58.false in
-    let reading = well-read a.line.now colon a.bytes.now (search rules) _ _ (rw (digits_are a.line.now, c.in-Bytes.is) at read.read_pairs.ensures) in
+    let a = c.args in
+    let colon = sym c.byte.ensures ∙ c.if-byte-ne58.false in
+    let reading = well-read a.line.now colon a.bytes.now (search rules) _ _ (rw (digits_are a.line.now, c.in-Bytes.is) at c.read_pairs.ensures) in
     omega (arith, reading.room)
 
 pub returns-in-Bytes : goal.returns-in-Bytes
 returns-in-Bytes c =
-    let read = c in
-    let first = read in
-    let a = first.args in
+    let a = c.args in
     let n = c.n-1 in
-    let colon = sym first.byte.ensures ∙ first.if-byte-ne58.false in
-    let reading = well-read a.line.now colon a.bytes.now (search rules) _ _ (rw (digits_are a.line.now, n.given.1) at read.read_pairs.ensures) in
+    let colon = sym c.byte.ensures ∙ c.if-byte-ne58.false in
+    let reading = well-read a.line.now colon a.bytes.now (search rules) _ _ (rw (digits_are a.line.now, n.given.1) at c.read_pairs.ensures) in
     let z : n.given.0.0 - 0 ≡ n.given.0.0 = omega arith in
     line_read a.line.now colon _ _ reading _ (rw z) c.record_of.result c.record_of.ensures
 
 pub returns-in-Bad : goal.returns-in-Bad
 returns-in-Bad c =
-    let read = c in
-    let first = read in
-    let a = first.args in
-    let colon = sym first.byte.ensures ∙ first.if-byte-ne58.false in
-    (badly-read a.line.now colon a.bytes.now (search rules) _ (rw (digits_are a.line.now, c.in-Bad.is) at read.read_pairs.ensures), tt)
+    let a = c.args in
+    let colon = sym c.byte.ensures ∙ c.if-byte-ne58.false in
+    (badly-read a.line.now colon a.bytes.now (search rules) _ (rw (digits_are a.line.now, c.in-Bad.is) at c.read_pairs.ensures), tt)

@@ -14,27 +14,23 @@ returns-then-count-bytes c = (above _ _ _ _ _ (omega arith) (other _ _ _ _ _ c.i
 
 pub returns-then-bytes-eq1 : goal.returns-then-bytes-eq1
 unfolding record_in
-returns-then-bytes-eq1 c = let counted = c in (above _ _ _ _ _ (omega arith) (same _ _ _ _ _ counted.if-count-bytes.false (same _ _ _ _ _ c.if-bytes-eq1.true c.end_of_lem.ensures.0)), c.end_of_lem.ensures.1)
+returns-then-bytes-eq1 c = (above _ _ _ _ _ (omega arith) (same _ _ _ _ _ c.if-count-bytes.false (same _ _ _ _ _ c.if-bytes-eq1.true c.end_of_lem.ensures.0)), c.end_of_lem.ensures.1)
 
 pub returns-then-bytes-ne0 : goal.returns-then-bytes-ne0
 unfolding record_in
-returns-then-bytes-ne0 c = let counted = c in (above _ _ _ _ _ (omega arith) (same _ _ _ _ _ counted.if-count-bytes.false (other _ _ _ _ _ c.if-bytes-eq1.false (other _ _ _ _ _ c.if-bytes-ne0.true refl))), tt)
+returns-then-bytes-ne0 c = (above _ _ _ _ _ (omega arith) (same _ _ _ _ _ c.if-count-bytes.false (other _ _ _ _ _ c.if-bytes-eq1.false (other _ _ _ _ _ c.if-bytes-ne0.true refl))), tt)
 
 pub returns-then-checksum-ne0 : goal.returns-then-checksum-ne0
 unfolding record_in
 returns-then-checksum-ne0 c =
-    let typed = c in
-    let counted = typed in
-    (above _ _ _ _ _ (omega arith) (same _ _ _ _ _ counted.if-count-bytes.false (other _ _ _ _ _ typed.if-bytes-eq1.false (same _ _ _ _ _ typed.if-bytes-ne0.false (other _ _ _ _ _ (λ e. c.if-checksum-ne0.true (c.checksum.ensures ∙ e)) refl)))), tt)
+    (above _ _ _ _ _ (omega arith) (same _ _ _ _ _ c.if-count-bytes.false (other _ _ _ _ _ c.if-bytes-eq1.false (same _ _ _ _ _ c.if-bytes-ne0.false (other _ _ _ _ _ (λ e. c.if-checksum-ne0.true (c.checksum.ensures ∙ e)) refl)))), tt)
 
 pub returns : goal.returns
 unfolding record_in
 returns c =
-    let sum = c in
-    let typed = sum in
-    let counted = typed in (
-      above _ _ _ _ _ (omega arith) (same _ _ _ _ _ counted.if-count-bytes.false (other _ _ _ _ _ typed.if-bytes-eq1.false (same _ _ _ _ _ typed.if-bytes-ne0.false (same _ _ _ _ _ (sym sum.checksum.ensures ∙ sum.if-checksum-ne0.false) (rw c.big16-start.ensures))))),
-      omega (arith, counted.if-count-bytes.false),
+    (
+      above _ _ _ _ _ (omega arith) (same _ _ _ _ _ c.if-count-bytes.false (other _ _ _ _ _ c.if-bytes-eq1.false (same _ _ _ _ _ c.if-bytes-ne0.false (same _ _ _ _ _ (sym c.checksum.ensures ∙ c.if-checksum-ne0.false) (rw c.big16-start.ensures))))),
+      omega (arith, c.if-count-bytes.false),
     )
 
 pub overflow_cast-count : goal.overflow_cast-count

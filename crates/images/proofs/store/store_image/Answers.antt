@@ -12,7 +12,6 @@ returns-then-image-eeprom c = search tests
 
 pub returns : goal.returns
 returns c =
-    let put = c in
-    let a = put.args in
-    let whole = put-over a.image.now a.eeprom.now put.put.ensures (omega arith) ∙ over-whole a.image.now a.eeprom.now (omega arith) in
+    let a = c.args in
+    let whole = put-over a.image.now a.eeprom.now c.put.ensures (omega arith) ∙ over-whole a.image.now a.eeprom.now (omega arith) in
     rw whole (above _ _ _ _ _ (omega arith) (same _ _ _ _ _ (omega arith) refl))

@@ -3,4 +3,4 @@ use Rattle.fields.proofs.Rows.{encoded-padded}
 use Rattle.responses.proofs.Responses.to_bytes.Goals as goal
 
 pub returns : goal.returns
-returns c = let put = c in rw (put.write.ensures, put.response_row.ensures, encoded-padded)
+returns c = rw (c.write.ensures, c.response_row.ensures, encoded-padded)

@@ -3,4 +3,4 @@ use Rattle.fields.proofs.Rows.{encoded-padded}
 use Rattle.responses.proofs.Responses.to_frame.Goals as goal
 
 pub returns : goal.returns
-returns c = let put = c in rw (put.frame.ensures, put.response_row.ensures, encoded-padded)
+returns c = rw (c.frame.ensures, c.response_row.ensures, encoded-padded)

@@ -8,17 +8,12 @@ use Rattle.saves.proofs.replay.replay.Goals as goal
 pub returns-in-Done : goal.returns-in-Done
 unfolding replay_of
 returns-in-Done c =
-    let call = c in
-    let fields = call in
-    let told = fields in
-    let check = told in
-    let a = check.args in
-    let stores = replay-stores (length a.eeprom.now) (length a.settings.now) a.save.now (memory a.eeprom.now a.settings.now) (rw told.in-Done.is at check.check_for.ensures) in
-    rw (call.store_frames.ensures, fields.fields_of.ensures) stores
+    let a = c.args in
+    let stores = replay-stores (length a.eeprom.now) (length a.settings.now) a.save.now (memory a.eeprom.now a.settings.now) (rw c.in-Done.is at c.check_for.ensures) in
+    rw (c.store_frames.ensures, c.fields_of.ensures) stores
 
 pub returns-in-Refused : goal.returns-in-Refused
 unfolding replay_of
 returns-in-Refused c =
-    let check = c in
-    let a = check.args in
-    replay-refuses (length a.eeprom.now) (length a.settings.now) a.save.now _ (rw c.in-Refused.is at check.check_for.ensures)
+    let a = c.args in
+    replay-refuses (length a.eeprom.now) (length a.settings.now) a.save.now _ (rw c.in-Refused.is at c.check_for.ensures)

@@ -6,17 +6,14 @@ use Rattle.saves.proofs.replay.store_frame.Goals as goal
 
 pub returns-in-Is : goal.returns-in-Is
 returns-in-Is c =
-    let stored = c in
-    let change = stored.change-1 in
-    let told = stored in
-    let a = told.args in
-    let means = rw change.given.1 at told.meaning_of.ensures in
-    rw (← told.packet_in-packet.ensures, ← change-writes _ (length a.eeprom.now) (length a.settings.now) _ means) stored.store.ensures
+    let change = c.change-1 in
+    let a = c.args in
+    let means = rw change.given.1 at c.meaning_of.ensures in
+    rw (← c.packet_in-packet.ensures, ← change-writes _ (length a.eeprom.now) (length a.settings.now) _ means) c.store.ensures
 
 pub returns-in-Refused : goal.returns-in-Refused
 returns-in-Refused c =
-    let told = c in
-    let a = told.args in
-    let p = told.packet_in-packet.result.now in
-    let means = rw c.in-Refused.is at told.meaning_of.ensures in
-    rw (← told.packet_in-packet.ensures, ← none-writes p (packet_means (length a.eeprom.now) (length a.settings.now) p) means)
+    let a = c.args in
+    let p = c.packet_in-packet.result.now in
+    let means = rw c.in-Refused.is at c.meaning_of.ensures in
+    rw (← c.packet_in-packet.ensures, ← none-writes p (packet_means (length a.eeprom.now) (length a.settings.now) p) means)

@@ -22,27 +22,26 @@ pub loop-rest-init : goal.loop-rest-init
 loop-rest-init c = (refl, refl, refl)
 
 pub slice_bounds-rest-count : goal.slice_bounds-rest-count
-slice_bounds-rest-count c = let d = c in omega (arith, c.field_end-end.ensures, tag-whole (left d) (is-frame d))
+slice_bounds-rest-count c = omega (arith, c.field_end-end.ensures, tag-whole (left c) (is-frame c))
 
 pub slice_bounds-rest-start : goal.slice_bounds-rest-start
-slice_bounds-rest-start c = let d = c in omega (arith, c.field_end-end.ensures, tag-whole (left d) (is-frame d))
+slice_bounds-rest-start c = omega (arith, c.field_end-end.ensures, tag-whole (left c) (is-frame c))
 
 pub slice_bounds-rest-end : goal.slice_bounds-rest-end
-slice_bounds-rest-end c = let d = c in omega (arith, c.field_end-end.ensures, tag-whole (left d) (is-frame d))
+slice_bounds-rest-end c = omega (arith, c.field_end-end.ensures, tag-whole (left c) (is-frame c))
 
 pub loop-rest-smaller : goal.loop-rest-smaller
-loop-rest-smaller c = let d = c in rw (cut-behind (left d) c.field_end-end.result c.field_end-end.ensures) (behind-shorter (left d) (is-frame d))
+loop-rest-smaller c = rw (cut-behind (left c) c.field_end-end.result c.field_end-end.ensures) (behind-shorter (left c) (is-frame c))
 
 pub loop-rest-preserved : goal.loop-rest-preserved
 loop-rest-preserved c =
-    let d = c in
     let call = c.store_frame in
     let l = c.loop-rest in
     let a = c.args in (
       call.auto.1.0 ∙ l.invariant.0,
       call.auto.1.1.0 ∙ l.invariant.1,
-      rw (cut-behind (left d) c.field_end-end.result c.field_end-end.ensures)
-          (frame-stored (length a.eeprom.now) (length a.settings.now) (left d) (is-frame d) _ d.content_of.ensures (memory l.eeprom l.settings) _
+      rw (cut-behind (left c) c.field_end-end.result c.field_end-end.ensures)
+          (frame-stored (length a.eeprom.now) (length a.settings.now) (left c) (is-frame c) _ c.content_of.ensures (memory l.eeprom l.settings) _
           (rw (l.invariant.0, l.invariant.1) at call.ensures)
           ∙ l.invariant.2),
     )

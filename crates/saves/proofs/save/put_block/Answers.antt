@@ -10,19 +10,14 @@ use Rattle.saves.proofs.save.put_block.Goals as goal
 
 pub put_memory-requires : goal.put_memory-requires
 put_memory-requires c =
-    let most = c in
-    let a = most.args in
-    rw (c.part.ensures, most.at_most-len.ensures) (omega (arith, length-block a.eeprom.now a.k))
+    let a = c.args in
+    rw (c.part.ensures, c.at_most-len.ensures) (omega (arith, length-block a.eeprom.now a.k))
 
 pub returns : goal.returns
 returns c =
-    let put = c in
-    let made = put in
-    let part = made in
-    let most = part in
-    let a = most.args in
+    let a = c.args in
     let e = a.eeprom.now in
     let is = memory-bytes e a.k in
-    let wrote = rw (part.part.ensures, most.at_most-len.ensures, ← is) at made.put_memory.ensures in
-    let size : most.at_most-len.result + 3 ≡ length (memory_packet e a.k) = omega (arith, most.at_most-len.ensures, length-memory-packet e a.k) in
-    rw (over-part (memory_packet e a.k) _ wrote 0 (most.at_most-len.result + 3) (omega arith) size) at put.put_frame.ensures
+    let wrote = rw (c.part.ensures, c.at_most-len.ensures, ← is) at c.put_memory.ensures in
+    let size : c.at_most-len.result + 3 ≡ length (memory_packet e a.k) = omega (arith, c.at_most-len.ensures, length-memory-packet e a.k) in
+    rw (over-part (memory_packet e a.k) _ wrote 0 (c.at_most-len.result + 3) (omega arith) size) at c.put_frame.ensures

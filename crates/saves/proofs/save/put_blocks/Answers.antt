@@ -18,14 +18,12 @@ loop-k-smaller c = omega arith
 
 pub loop-k-preserved : goal.loop-k-preserved
 loop-k-preserved c =
-    let put = c in
-    let l = put in
-    let a = l.args in
+    let a = c.args in
     let e = a.eeprom.now in
-    let k = l.loop-k.k in
+    let k = c.loop-k.k in
     let is : 40 * k ≡ length (rising (memory_packet e) k) = omega (arith, length-blocks e k) in
     let room : 40 * k + (length (memory_packet e k) + 5) ≤ length a.out.now = omega (arith, length-memory-packet e k) in
-    (omega arith, rising-next (memory_packet e) k (40 * k) a.out.now is room l.loop-k.invariant.1.1 put.put_block.ensures)
+    (omega arith, rising-next (memory_packet e) k (40 * k) a.out.now is room c.loop-k.invariant.1.1 c.put_block.ensures)
 
 pub returns : goal.returns
 returns c = let all : c.args.blocks ≡ c.loop-k.k = omega (arith, c.loop-k-test.false) in rw all c.loop-k.invariant.1.1

@@ -10,10 +10,6 @@ use Rattle.saves.proofs.save.put_end.Goals as goal
 pub returns : goal.returns
 unfolding end_field
 returns c =
-    let second = c in
-    let number = second in
-    let first = number in
-    let head = first in
-    let a = head.args in
-    let count = rw number.big_bytes32.ensures at second.put-2.ensures in
-    field_put 0x7F 4 a.out.now head.head.ensures first.put.ensures (big_bytes 4 a.frames) count (sym (length-big 4 a.frames)) (omega arith)
+    let a = c.args in
+    let count = rw c.big_bytes32.ensures at c.put-2.ensures in
+    field_put 0x7F 4 a.out.now c.head.ensures c.put.ensures (big_bytes 4 a.frames) count (sym (length-big 4 a.frames)) (omega arith)

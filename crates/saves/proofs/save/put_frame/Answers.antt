@@ -13,10 +13,7 @@ use Rattle.saves.proofs.save.put_frame.Goals as goal
 pub returns : goal.returns
 unfolding frame_field
 returns c =
-    let second = c in
-    let first = second in
-    let head = first in
-    let a = head.args in
+    let a = c.args in
     let p = a.packet.now in
-    let wrote = second.frame.ensures ∙ sym (above _ _ _ _ _ (omega arith) refl) in
-    field_put 0x10 (length p + 2) a.out.now head.head.ensures first.put.ensures (frame_of p) wrote (omega (arith, length-frame p)) (omega arith)
+    let wrote = c.frame.ensures ∙ sym (above _ _ _ _ _ (omega arith) refl) in
+    field_put 0x10 (length p + 2) a.out.now c.head.ensures c.put.ensures (frame_of p) wrote (omega (arith, length-frame p)) (omega arith)

@@ -10,10 +10,7 @@ use Rattle.saves.proofs.save.put_memory.Goals as goal
 pub returns : goal.returns
 unfolding big_bytes
 returns c =
-    let second = c in
-    let first = second in
-    let place = first in
-    let a = place.args in
+    let a = c.args in
     let l = a.out.now in
     let h : List ℕ = 0x04 ∷ big_bytes 2 a.addr in
-    put_rest h l (put-over h l (rw place.big_bytes16-place.ensures at first.put.ensures) (omega arith)) a.block.now 3 second.put-2.ensures refl (omega arith)
+    put_rest h l (put-over h l (rw c.big_bytes16-place.ensures at c.put.ensures) (omega arith)) a.block.now 3 c.put-2.ensures refl (omega arith)

@@ -18,14 +18,12 @@ loop-k-smaller c = omega arith
 
 pub loop-k-preserved : goal.loop-k-preserved
 loop-k-preserved c =
-    let put = c in
-    let l = put in
-    let a = l.args in
+    let a = c.args in
     let s = a.settings.now in
-    let k = l.loop-k.k in
+    let k = c.loop-k.k in
     let is : 13 * k ≡ length (rising (word_packet s) k) = omega (arith, length-words s k) in
     let room : 13 * k + (length (word_packet s k) + 5) ≤ length a.out.now = omega (arith, length-word-packet s k) in
-    (omega arith, rising-next (word_packet s) k (13 * k) a.out.now is room l.loop-k.invariant.1.1 put.put_setting.ensures)
+    (omega arith, rising-next (word_packet s) k (13 * k) a.out.now is room c.loop-k.invariant.1.1 c.put_setting.ensures)
 
 pub returns : goal.returns
 returns c = let all : length c.args.settings.now ≡ c.loop-k.k = omega (arith, c.loop-k-test.false) in rw all c.loop-k.invariant.1.1

@@ -7,7 +7,7 @@ pub returns-then-too_large : goal.returns-then-too_large
 returns-then-too_large c = rw (← c.too_large.ensures, c.if-too_large.true)
 
 pub save_sized-requires : goal.save_sized-requires
-save_sized-requires c = let sized = c in right-sizes _ _ (sym sized.too_large.ensures ∙ sized.if-too_large.false)
+save_sized-requires c = right-sizes _ _ (sym c.too_large.ensures ∙ c.if-too_large.false)
 
 pub returns : goal.returns
-returns c = let sized = c in rw (← sized.too_large.ensures, sized.if-too_large.false) c.save_sized.ensures
+returns c = rw (← c.too_large.ensures, c.if-too_large.false) c.save_sized.ensures

@@ -16,16 +16,12 @@ returns-then-out-end c = rw length-save (below _ _ _ _ _ (omega arith) refl)
 pub returns : goal.returns
 unfolding room blocks
 returns c =
-    let fourth = c in
-    let third = fourth in
-    let second = third in
-    let first = second in
-    let a = first.args in
+    let a = c.args in
     let m = memory a.eeprom.now a.settings.now in
     let e = length m.eeprom in
     let s = length m.settings in
     let words : ℕ = 11 + e + 8 * blocks e in
     let enough : room e s ≤ length a.out.now = omega arith in
-    let whole = parts-put m a.out.now enough words (words + 13 * s) refl refl _ _ _ _ first.put_shape.ensures second.put_blocks.ensures third.put_settings.ensures fourth.put_end.ensures in
+    let whole = parts-put m a.out.now enough words (words + 13 * s) refl refl _ _ _ _ c.put_shape.ensures c.put_blocks.ensures c.put_settings.ensures c.put_end.ensures in
     let size : words + 13 * s + 7 ≡ room e s = omega arith in
     rw (whole, length-save m, ← size) (above _ _ _ _ _ (omega arith) refl)

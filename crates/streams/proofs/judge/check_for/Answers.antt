@@ -24,23 +24,17 @@ returns-then-save-gt-LONGEST_SAVE c = rw (← c.too_large.ensures, c.if-too_larg
 
 pub returns-then-shape-e : goal.returns-then-shape-e
 returns-then-shape-e c =
-    let read = c in
-    rw (short read, ← read.shape_of.ensures, c.in-Sound.is, ← other _ _ _ _ _ c.if-shape-e.true refl)
+    rw (short c, ← c.shape_of.ensures, c.in-Sound.is, ← other _ _ _ _ _ c.if-shape-e.true refl)
 
 pub returns-then-shape-s : goal.returns-then-shape-s
 returns-then-shape-s c =
-    let first = c in
-    let read = first in
-    rw (short read, ← read.shape_of.ensures, first.in-Sound.is, ← same _ _ _ _ _ first.if-shape-e.false refl, ← other _ _ _ _ _ c.if-shape-s.true refl)
+    rw (short c, ← c.shape_of.ensures, c.in-Sound.is, ← same _ _ _ _ _ c.if-shape-e.false refl, ← other _ _ _ _ _ c.if-shape-s.true refl)
 
 pub returns-else-shape-s : goal.returns-else-shape-s
 returns-else-shape-s c =
-    let second = c in
-    let first = second in
-    let shape = first.shape-1 in
-    let read = first in
-    rw (short read, ← read.shape_of.ensures, shape.given.1, ← same _ _ _ _ _ first.if-shape-e.false refl, ← same _ _ _ _ _ second.if-shape-s.false refl, still-sound shape.given.0.0, first.if-shape-e.false, second.if-shape-s.false, ← c.fields_of.ensures)
+    let shape = c.shape-1 in
+    rw (short c, ← c.shape_of.ensures, shape.given.1, ← same _ _ _ _ _ c.if-shape-e.false refl, ← same _ _ _ _ _ c.if-shape-s.false refl, still-sound shape.given.0.0, c.if-shape-e.false, c.if-shape-s.false, ← c.fields_of.ensures)
     c.scan.ensures
 
 pub returns-in-Refused : goal.returns-in-Refused
-returns-in-Refused c = let read = c in rw (short read, ← read.shape_of.ensures, c.in-Refused.is)
+returns-in-Refused c = rw (short c, ← c.shape_of.ensures, c.in-Refused.is)

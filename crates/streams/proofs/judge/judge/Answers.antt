@@ -17,8 +17,7 @@ returns-then-save-gt-LONGEST_SAVE c = ap (on_accepted (λ (s : Save). s.shape)) 
 
 pub returns-in-Sound : goal.returns-in-Sound
 returns-in-Sound c =
-    let read = c in
-    rw (short read, ← read.shape_of.ensures, c.in-Sound.is) c.judge_sized.ensures
+    rw (short c, ← c.shape_of.ensures, c.in-Sound.is) c.judge_sized.ensures
 
 pub returns-in-Refused : goal.returns-in-Refused
-returns-in-Refused c = let read = c in rw (short read, ← read.shape_of.ensures, c.in-Refused.is)
+returns-in-Refused c = rw (short c, ← c.shape_of.ensures, c.in-Refused.is)

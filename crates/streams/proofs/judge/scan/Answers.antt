@@ -45,73 +45,44 @@ bytes-smaller c = omega arith
 
 pub bytes-preserved : goal.bytes-preserved
 bytes-preserved c =
-    let add = c in
-    let turn = add in
-    let got = turn in
-    let d = got in
-    let f = frame d in
-    (omega arith, omega (arith, total-turn f turn.bytes.i (omega (arith, as_long f (received got), turn.byte-len.ensures)), add.byte-in-bytes.ensures))
+    let f = frame c in
+    (omega arith, omega (arith, total-turn f c.bytes.i (omega (arith, as_long f (received c), c.byte-len.ensures)), c.byte-in-bytes.ensures))
 
 pub overflow_add-frames : goal.overflow_add-frames
 overflow_add-frames c = omega arith
 
 pub slice_bounds-rest-count : goal.slice_bounds-rest-count
-slice_bounds-rest-count c = let d = c in omega (arith, c.field_end-end.ensures, tag-whole (left d) (is-frame d))
+slice_bounds-rest-count c = omega (arith, c.field_end-end.ensures, tag-whole (left c) (is-frame c))
 
 pub slice_bounds-rest-start : goal.slice_bounds-rest-start
-slice_bounds-rest-start c = let d = c in omega (arith, c.field_end-end.ensures, tag-whole (left d) (is-frame d))
+slice_bounds-rest-start c = omega (arith, c.field_end-end.ensures, tag-whole (left c) (is-frame c))
 
 pub slice_bounds-rest-end : goal.slice_bounds-rest-end
-slice_bounds-rest-end c = let d = c in omega (arith, c.field_end-end.ensures, tag-whole (left d) (is-frame d))
+slice_bounds-rest-end c = omega (arith, c.field_end-end.ensures, tag-whole (left c) (is-frame c))
 
 pub fields-smaller : goal.fields-smaller
-fields-smaller c = let d = c in rw (cut-behind (left d) c.field_end-end.result c.field_end-end.ensures) (behind-shorter (left d) (is-frame d))
+fields-smaller c = rw (cut-behind (left c) c.field_end-end.result c.field_end-end.ensures) (behind-shorter (left c) (is-frame c))
 
 pub fields-preserved : goal.fields-preserved
 fields-preserved c =
-    let told = c in
-    let fault = told in
-    let good = fault in
-    let got = good in
-    let d = got in
-    let l = d in
-    let first = l in
-    let shorter = behind-shorter (left d) (is-frame d) in
-    let fine = rw told.in_default-packet_fault.is at fault.packet_fault.ensures in
-    rw (cut-behind (left d) c.field_end-end.result c.field_end-end.ensures)
-    (omega (arith, shorter), goes_on first.args.e first.args.s l.fields.frames (left d) (frame d) (is-frame d) d.content_of-frame.ensures (received got) (sums good) _ fault.packet_in.ensures fine ∙ l.fields.invariant.1)
+    let shorter = behind-shorter (left c) (is-frame c) in
+    let fine = rw c.in_default-packet_fault.is at c.packet_fault.ensures in
+    rw (cut-behind (left c) c.field_end-end.result c.field_end-end.ensures)
+    (omega (arith, shorter), goes_on c.args.e c.args.s c.fields.frames (left c) (frame c) (is-frame c) c.content_of-frame.ensures (received c) (sums c) _ c.packet_in.ensures fine ∙ c.fields.invariant.1)
 
 pub returns-then-tag_of-ne-FRAME : goal.returns-then-tag_of-ne-FRAME
 returns-then-tag_of-ne-FRAME c = let l = c.fields in c.end_of_lem.ensures ∙ none_left c.args.e c.args.s l.frames l.rest.now (λ h. c.if-tag_of-ne-FRAME.true (c.tag_of.ensures ∙ h)) ∙ l.invariant.1
 
 pub returns-in-Refused : goal.returns-in-Refused
 returns-in-Refused c =
-    let told = c in
-    let got = told in
-    let d = got in
-    let l = d in
-    let first = l in
-    not-received first.args.e first.args.s l.fields.frames (left d) (frame d) (is-frame d) d.content_of-frame.ensures (rw told.in-Refused.is at got.receipt.ensures) ∙ l.fields.invariant.1
+    not-received c.args.e c.args.s c.fields.frames (left c) (frame c) (is-frame c) c.content_of-frame.ensures (rw c.in-Refused.is at c.receipt.ensures) ∙ c.fields.invariant.1
 
 pub returns-then-sum-byte : goal.returns-then-sum-byte
 returns-then-sum-byte c =
-    let end = c in
-    let turn = end in
-    let got = turn in
-    let d = got in
-    let l = d in
-    let first = l in
-    not-summed first.args.e first.args.s l.fields.frames (left d) (frame d) (is-frame d) d.content_of-frame.ensures (received got)
-    (λ h. c.if-sum-byte.true (turn.bytes.invariant.1 ∙ rw (end.if-i-len.true, turn.byte-len.ensures) h ∙ sym c.byte.ensures))
-    ∙ l.fields.invariant.1
+    not-summed c.args.e c.args.s c.fields.frames (left c) (frame c) (is-frame c) c.content_of-frame.ensures (received c)
+    (λ h. c.if-sum-byte.true (c.bytes.invariant.1 ∙ rw (c.if-i-len.true, c.byte-len.ensures) h ∙ sym c.byte.ensures))
+    ∙ c.fields.invariant.1
 
 pub returns-in-Refused-packet_fault : goal.returns-in-Refused-packet_fault
 returns-in-Refused-packet_fault c =
-    let told = c in
-    let fault = told in
-    let good = fault in
-    let got = good in
-    let d = got in
-    let l = d in
-    let first = l in
-    not-meant first.args.e first.args.s l.fields.frames (left d) (frame d) (is-frame d) d.content_of-frame.ensures (received got) (sums good) _ fault.packet_in.ensures (rw told.in-Refused-packet_fault.is at fault.packet_fault.ensures) ∙ l.fields.invariant.1
+    not-meant c.args.e c.args.s c.fields.frames (left c) (frame c) (is-frame c) c.content_of-frame.ensures (received c) (sums c) _ c.packet_in.ensures (rw c.in-Refused-packet_fault.is at c.packet_fault.ensures) ∙ c.fields.invariant.1

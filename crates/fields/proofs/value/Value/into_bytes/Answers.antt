@@ -2,4 +2,4 @@
 use Rattle.fields.proofs.value.Value.into_bytes.Goals as goal
 
 pub returns : goal.returns
-returns c = c.put.ensures.0
+returns c = c.put.ensures.out_after

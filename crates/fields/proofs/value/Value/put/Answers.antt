@@ -2,16 +2,16 @@
 use Rattle.fields.proofs.value.Value.put.Goals as goal
 
 pub returns-in-Float : goal.returns-in-Float
-returns-in-Float c = let put = c in let bytes = put in rw bytes.in-Float.is (rw (bytes.little_bytes32.ensures, bytes.to_bits.ensures) at put.put4.ensures)
+returns-in-Float c = rw c.in-Float.is (rw (c.little_bytes32.ensures, c.to_bits.ensures) at c.put4.ensures)
 
 pub returns-in-FixedPoint : goal.returns-in-FixedPoint
-returns-in-FixedPoint c = let put = c in let bytes = put in rw bytes.in-FixedPoint.is (rw (bytes.big_bytes32.ensures, bytes.to_u32.ensures) at put.put4-in-FixedPoint.ensures)
+returns-in-FixedPoint c = rw c.in-FixedPoint.is (rw (c.big_bytes32.ensures, c.to_u32.ensures) at c.put4-in-FixedPoint.ensures)
 
 pub returns-in-Int : goal.returns-in-Int
-returns-in-Int c = let put = c in let bytes = put in rw bytes.in-Int.is (rw bytes.little_bytes32-in-Int.ensures at put.put4-in-Int.ensures)
+returns-in-Int c = rw c.in-Int.is (rw c.little_bytes32-in-Int.ensures at c.put4-in-Int.ensures)
 
 pub returns-in-Int32 : goal.returns-in-Int32
-returns-in-Int32 c = let put = c in let bytes = put in rw bytes.in-Int32.is (rw bytes.big_bytes32-in-Int32.ensures at put.put4-in-Int32.ensures)
+returns-in-Int32 c = rw c.in-Int32.is (rw c.big_bytes32-in-Int32.ensures at c.put4-in-Int32.ensures)
 
 pub returns-in-Unknown : goal.returns-in-Unknown
-returns-in-Unknown c = let put = c in rw put.in-Unknown.is put.put_part.ensures
+returns-in-Unknown c = rw c.in-Unknown.is c.put_part.ensures

@@ -13,20 +13,14 @@ returns-then-is_outside c = ap (viewed _) (below _ _ _ _ _ (found-outside _ _ c.
 pub returns-then-is_outside-2 : goal.returns-then-is_outside-2
 unfolding memory_join
 returns-then-is_outside-2 c =
-    let m = c in
-    let h = found_inside _ _ m.is_outside.ensures m.if-is_outside.false in
+    let h = found_inside _ _ c.is_outside.ensures c.if-is_outside.false in
     let k = found-outside _ _ c.is_outside-2.ensures c.if-is_outside-2.true in
     ap (viewed _) (above _ _ _ _ _ h (below _ _ _ _ _ k refl))
 
 pub returns : goal.returns
 unfolding memory_join
 returns c =
-    let j = c in
-    let second = j in
-    let first = second in
-    let two = first in
-    let one = two in
-    let h = found_inside _ _ one.is_outside.ensures one.if-is_outside.false in
-    let k = found_inside _ _ two.is_outside-2.ensures two.if-is_outside-2.false in
-    let e = rw (first.part-first.ensures, second.part-second.ensures, second.kept-more.ensures) at j.join-answer.ensures in
+    let h = found_inside _ _ c.is_outside.ensures c.if-is_outside.false in
+    let k = found_inside _ _ c.is_outside-2.ensures c.if-is_outside-2.false in
+    let e = rw (c.part-first.ensures, c.part-second.ensures, c.kept-more.ensures) at c.join-answer.ensures in
     rw c.joined_memory.ensures (ap (viewed _) (above _ _ _ _ _ h (above _ _ _ _ _ k (e ∙ adjoined-kept _ _ _ _ _ _ _ h))))

@@ -14,21 +14,16 @@ returns-then-is_outside c = ap (map _) (below _ _ _ _ _ (found-outside _ _ c.is_
 
 pub overflow_add-start : goal.overflow_add-start
 overflow_add-start c =
-    let p = c in
-    let m = p in
-    record { fits = omega (arith, found-held _ _ _ _ _ _ m.is_outside.ensures m.if-is_outside.false p.in-At.is m.view_part.ensures) }
+    record { fits = omega (arith, found-held _ _ _ _ _ _ c.is_outside.ensures c.if-is_outside.false c.in-At.is c.view_part.ensures) }
 
 pub returns-in-At : goal.returns-in-At
 unfolding part_at
 returns-in-At c =
-    let p = c in
-    let m = p in
-    let h = found_inside _ _ m.is_outside.ensures m.if-is_outside.false in
-    rw (← m.view_part.ensures, p.in-At.is) (ap (map _) (above _ _ _ _ _ h refl))
+    let h = found_inside _ _ c.is_outside.ensures c.if-is_outside.false in
+    rw (← c.view_part.ensures, c.in-At.is) (ap (map _) (above _ _ _ _ _ h refl))
 
 pub returns-in-Outside : goal.returns-in-Outside
 unfolding part_at
 returns-in-Outside c =
-    let m = c in
-    let h = found_inside _ _ m.is_outside.ensures m.if-is_outside.false in
-    rw (← m.view_part.ensures, c.in-Outside.is) (ap (map _) (above _ _ _ _ _ h refl))
+    let h = found_inside _ _ c.is_outside.ensures c.if-is_outside.false in
+    rw (← c.view_part.ensures, c.in-Outside.is) (ap (map _) (above _ _ _ _ _ h refl))

@@ -5,8 +5,7 @@ use Rattle.views.proofs.memory.MemoryView.read_u16.Goals as goal
 pub returns-in-At : goal.returns-in-At
 unfolding word_at
 returns-in-At c =
-    let m = c in
-    rw (c.big16.ensures, ← m.read_at.ensures, m.in-At.is)
+    rw (c.big16.ensures, ← c.read_at.ensures, c.in-At.is)
 
 pub returns-in-Outside : goal.returns-in-Outside
 unfolding word_at
