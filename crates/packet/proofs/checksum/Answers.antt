@@ -1,6 +1,6 @@
 -- After i turns the sum is that of the first i bytes. Adding as bytes is adding, then taking the remainder,
 -- so that one byte more is one step of `total`.
-use Rattle.std.proofs.Common.{◌-◌, refl, arith, take_all}
+use Rattle.std.proofs.Common.{refl, arith, take_all}
 use Rattle.packet.specs.Frame.{total}
 use Rattle.packet.proofs.Frames.{total-turn}
 use Rattle.packet.proofs.checksum.Goals as goal

@@ -6,9 +6,4 @@ use Rattle.packet.proofs.close.Goals as goal
 
 pub returns : goal.returns
 unfolding part_of
-returns c =
-    let close = c in
-    let sum = close in
-    let part = sum in
-    let a = part.args in
-    close.close_with.ensures ∙ rw (sum.checksum-sum.ensures, part.part.ensures) (closed-by a.out.now a.n)
+returns c = c.close_with.ensures ∙ rw (c.checksum-sum.ensures, c.part.ensures) (closed-by c.args.out.now c.args.n)

@@ -1,5 +1,5 @@
 -- After i turns the first i bytes stand over the output, and are added up.
-use Rattle.std.proofs.Common.{◌-◌, refl, arith, length-set, take_all}
+use Rattle.std.proofs.Common.{refl, arith, length-set, take_all}
 use Rattle.octets.specs.Over.{over}
 use Rattle.octets.proofs.Choosing.{tests}
 use Rattle.octets.proofs.Overlay.{over-turn}

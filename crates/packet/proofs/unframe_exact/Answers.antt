@@ -15,10 +15,8 @@ returns-then-end-bytes c = rw (← c.length_byte-end.ensures.0) (search tests)
 
 pub returns-then-checksum-bytes : goal.returns-then-checksum-bytes
 returns-then-checksum-bytes c =
-    let m = c in
-    rw (← m.length_byte-end.ensures.0, ← rw sub-zero at m.checksum.ensures) (search tests)
+    rw (← c.length_byte-end.ensures.0, ← rw sub-zero at c.checksum.ensures) (search tests)
 
 pub returns : goal.returns
 returns c =
-    let m = c in
-    rw (← m.length_byte-end.ensures.0, ← rw sub-zero at m.checksum.ensures) (search tests)
+    rw (← c.length_byte-end.ensures.0, ← rw sub-zero at c.checksum.ensures) (search tests)
