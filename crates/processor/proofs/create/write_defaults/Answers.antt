@@ -35,4 +35,4 @@ returns c =
 pub shape_of-eeprom : goal.shape_of-eeprom
 shape_of-eeprom c =
     let start = c in
-    ap length (returns c) ∙ length-store (new_writes start.args.dsp-version) (memory start.args.eeprom.now [])
+    ap length (returns c) ∙ length-store (new_writes start.args.dsp_version) (memory start.args.eeprom.now [])
