@@ -14,10 +14,10 @@ returns-then-out-n c = let r = ready (goal.at.returns-then-out-n c).In-Bytes in 
 
 pub put_row-requires : goal.put_row-requires
 put_row-requires c = let r = ready (goal.at.put_row-requires c).In-Bytes in record {
-      all_writable = r.sound;
-      row_len_bound = omega (arith, r.count, r.short);
-      row_in_bounds = omega (arith, r.count);
-    }
+  all_writable = r.sound;
+  row_len_bound = omega (arith, r.count, r.short);
+  row_in_bounds = omega (arith, r.count);
+}
 
 pub returns-else-out-n : goal.returns-else-out-n
 returns-else-out-n c =

@@ -27,11 +27,10 @@ returns-then-checksum-ne0 c =
 
 pub returns : goal.returns
 unfolding record_in
-returns c =
-    (
-      above _ _ _ _ _ (omega arith) (same _ _ _ _ _ c.if-count-bytes.false (other _ _ _ _ _ c.if-bytes-eq1.false (same _ _ _ _ _ c.if-bytes-ne0.false (same _ _ _ _ _ (sym c.checksum.ensures ∙ c.if-checksum-ne0.false) (rw c.big16-start.ensures))))),
-      omega (arith, c.if-count-bytes.false),
-    )
+returns c = (
+  above _ _ _ _ _ (omega arith) (same _ _ _ _ _ c.if-count-bytes.false (other _ _ _ _ _ c.if-bytes-eq1.false (same _ _ _ _ _ c.if-bytes-ne0.false (same _ _ _ _ _ (sym c.checksum.ensures ∙ c.if-checksum-ne0.false) (rw c.big16-start.ensures))))),
+  omega (arith, c.if-count-bytes.false),
+)
 
 pub overflow_cast-count : goal.overflow_cast-count
 overflow_cast-count c = omega (arith, c.shared_slice_known-2-1.given 0)

@@ -16,9 +16,8 @@ returns-then-p-gt1400897536 c = at_least _ _ c.if-below.true (search rules) (sea
 
 pub returns-then-below : goal.returns-then-below
 returns-then-below c =
-    let steps = c in
-    at-minus _ _ c.wrapping_sub_u32.result steps.if-below.true (search rules) (search rules) (search rules)
-    (rw (← steps.steps_up.ensures, ← c.low_word.ensures) c.wrapping_sub_u32.ensures.value)
+    at-minus _ _ c.wrapping_sub_u32.result c.if-below.true (search rules) (search rules) (search rules)
+    (rw (← c.steps_up.ensures, ← c.low_word.ensures) c.wrapping_sub_u32.ensures.value)
 
 pub returns-then-p-ge1400897536 : goal.returns-then-p-ge1400897536
 returns-then-p-ge1400897536 c = at_most _ _ c.if-below.false (search rules) (search rules)

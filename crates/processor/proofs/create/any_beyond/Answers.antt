@@ -10,23 +10,20 @@ loop-i-init c = (omega arith, refl)
 
 pub returns-then-settings-meter : goal.returns-then-settings-meter
 returns-then-settings-meter c =
-    let l = c in
-    let a = l.args in
+    let a = c.args in
     let here = rw c.meter.ensures at c.if-settings-meter.true in
-    beyond-here a.settings l.loop-i.i a.meters.now c.loop-i-test.true here ∙ sym l.loop-i.invariant.1
+    beyond-here a.settings c.loop-i.i a.meters.now c.loop-i-test.true here ∙ sym c.loop-i.invariant.1
 
 pub loop-i-smaller : goal.loop-i-smaller
 loop-i-smaller c = omega arith
 
 pub loop-i-preserved : goal.loop-i-preserved
 loop-i-preserved c =
-    let l = c in
-    let a = l.args in
+    let a = c.args in
     let not = rw c.meter.ensures at c.if-settings-meter.false in
-    (omega arith, l.loop-i.invariant.1 ∙ beyond-later a.settings l.loop-i.i a.meters.now c.loop-i-test.true not)
+    (omega arith, c.loop-i.invariant.1 ∙ beyond-later a.settings c.loop-i.i a.meters.now c.loop-i-test.true not)
 
 pub returns : goal.returns
 returns c =
-    let l = c in
-    let a = l.args in
-    beyond-none a.settings l.loop-i.i a.meters.now c.loop-i-test.false ∙ sym l.loop-i.invariant.1
+    let a = c.args in
+    beyond-none a.settings c.loop-i.i a.meters.now c.loop-i-test.false ∙ sym c.loop-i.invariant.1

@@ -5,4 +5,4 @@ pub returns-then-too_large : goal.returns-then-too_large
 returns-then-too_large c = rw (← c.too_large.ensures, c.if-too_large.true)
 
 pub returns : goal.returns
-returns c = let clear = c in let erase = clear in let sized = erase in rw (← sized.too_large.ensures, sized.if-too_large.false, c.device_of.ensures, clear.clear.ensures, erase.erase.ensures)
+returns c = rw (← c.too_large.ensures, c.if-too_large.false, c.device_of.ensures, c.clear.ensures, c.erase.ensures)

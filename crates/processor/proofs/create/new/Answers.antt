@@ -13,4 +13,4 @@ pub returns-then-any_beyond : goal.returns-then-any_beyond
 returns-then-any_beyond c = rw (← c.any_beyond.ensures, c.if-any_beyond.true) (same _ _ _ _ _ c.if-eeprom-ne-LARGEST.false (above _ _ _ _ _ c.if-settings-gt-LARGEST.false refl))
 
 pub returns : goal.returns
-returns c = let meters = c in let writes = meters in let clear = writes in let erase = clear in let tests = erase in rw (← tests.any_beyond.ensures, tests.if-any_beyond.false, c.device_of.ensures, meters.set_meters.ensures, writes.write_defaults.ensures, clear.clear.ensures, erase.erase.ensures) (same _ _ _ _ _ tests.if-eeprom-ne-LARGEST.false (above _ _ _ _ _ tests.if-settings-gt-LARGEST.false refl))
+returns c = rw (← c.any_beyond.ensures, c.if-any_beyond.false, c.device_of.ensures, c.set_meters.ensures, c.write_defaults.ensures, c.clear.ensures, c.erase.ensures) (same _ _ _ _ _ c.if-eeprom-ne-LARGEST.false (above _ _ _ _ _ c.if-settings-gt-LARGEST.false refl))

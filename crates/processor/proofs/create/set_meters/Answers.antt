@@ -19,16 +19,12 @@ loop-i-smaller c = omega arith
 
 pub loop-i-preserved : goal.loop-i-preserved
 loop-i-preserved c =
-    let put = c in
-    let m = put in
-    let l = m in
-    let a = l.args in
-    let next = rw m.meter.ensures at put.put_word.ensures in
-    let wrote = next ∙ ap (put_at (get_or a.meters.now l.loop-i.i 0) (0xC2700000 ∷ [])) l.loop-i.invariant.2 ∙ sym (more-meters l.loop-i.i a.meters.now a.settings.now (omega arith)) in
-    (omega arith, ap length next ∙ length-put (get_or a.meters.now l.loop-i.i 0) (0xC2700000 ∷ []) l.loop-i.settings ∙ l.loop-i.invariant.1, wrote)
+    let a = c.args in
+    let next = rw c.meter.ensures at c.put_word.ensures in
+    let wrote = next ∙ ap (put_at (get_or a.meters.now c.loop-i.i 0) (0xC2700000 ∷ [])) c.loop-i.invariant.2 ∙ sym (more-meters c.loop-i.i a.meters.now a.settings.now (omega arith)) in
+    (omega arith, ap length next ∙ length-put (get_or a.meters.now c.loop-i.i 0) (0xC2700000 ∷ []) c.loop-i.settings ∙ c.loop-i.invariant.1, wrote)
 
 pub returns : goal.returns
 returns c =
-    let l = c in
-    let a = l.args in
-    l.loop-i.invariant.2 ∙ ap (λ (ms : List ℕ). with_meters ms a.settings.now) (take_all l.loop-i.i a.meters.now (omega (arith, c.loop-i-test.false)))
+    let a = c.args in
+    c.loop-i.invariant.2 ∙ ap (λ (ms : List ℕ). with_meters ms a.settings.now) (take_all c.loop-i.i a.meters.now (omega (arith, c.loop-i-test.false)))

@@ -13,10 +13,7 @@ returns-then-eeprom c = above _ _ _ _ _ (omega arith) (below _ _ _ _ _ (omega ar
 
 pub returns : goal.returns
 returns c =
-    let second = c in
-    let first = second in
-    let sized = first in
-    let a = sized.args in
-    stamped a.value a.eeprom.now sized.if-eeprom-gt-LARGEST.false (omega (arith, sized.if-eeprom.false))
-    (rw first.big_bytes32.ensures at first.put_at.ensures)
-    (rw second.big_bytes16.ensures at second.put_at-2.ensures)
+    let a = c.args in
+    stamped a.value a.eeprom.now c.if-eeprom-gt-LARGEST.false (omega (arith, c.if-eeprom.false))
+    (rw c.big_bytes32.ensures at c.put_at.ensures)
+    (rw c.big_bytes16.ensures at c.put_at-2.ensures)

@@ -11,8 +11,7 @@ bounds-m-i c = inside _ _ c.mapping-m.ensures c.loop-i-test.true
 
 pub returns-then-e-id : goal.returns-then-e-id
 returns-then-e-id c =
-    let l = c in
-    hit l.loop-i.invariant _ l.mapping-m.ensures c.loop-i-test.true c.if-e-id.true
+    hit c.loop-i.invariant _ c.mapping-m.ensures c.loop-i-test.true c.if-e-id.true
 
 pub loop-i-preserved : goal.loop-i-preserved
 loop-i-preserved c = next c.loop-i.invariant c.loop-i-test.true c.if-e-id.false

@@ -12,9 +12,8 @@ bounds-m-i c = inside _ _ c.mapping-m.ensures c.loop-i-test.true
 
 pub returns-then-source_number-wanted : goal.returns-then-source_number-wanted
 returns-then-source_number-wanted c =
-    let l = c in
     let same = sym c.source_number.ensures ∙ c.if-source_number-wanted.true in
-    rw (← l.source_number-wanted.ensures) (hit l.loop-i.invariant _ l.mapping-m.ensures c.loop-i-test.true same)
+    rw (← c.source_number-wanted.ensures) (hit c.loop-i.invariant _ c.mapping-m.ensures c.loop-i-test.true same)
 
 pub loop-i-preserved : goal.loop-i-preserved
 loop-i-preserved c =
@@ -23,8 +22,7 @@ loop-i-preserved c =
 
 pub returns : goal.returns
 returns c =
-    let l = c in
-    rw (← l.source_number-wanted.ensures) (out l.loop-i.invariant _ l.mapping-m.ensures c.loop-i-test.false)
+    rw (← c.source_number-wanted.ensures) (out c.loop-i.invariant _ c.mapping-m.ensures c.loop-i-test.false)
 
 pub loop-i-init : goal.loop-i-init
 loop-i-init c = start
