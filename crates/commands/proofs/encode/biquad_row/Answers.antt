@@ -12,10 +12,8 @@ use Rattle.commands.proofs.encode.biquad_row.Goals as goal
 filler : Coefficient
 filler = record { value = Float nan }
 
-all : (c : tie.Start) → length c.args.t2 ≡ 5
-all c = search rules
-
 pub returns : goal.returns
 unfolding fields_of nothings padded filler
 returns c =
-    rw (five filler c.args.t2 (all c), c.coded.ensures, c.coded-2.ensures, c.coded-3.ensures, c.coded-4.ensures, c.coded-5.ensures)
+    let all : length c.args.values ≡ 5 = search rules in
+    rw (five filler c.args.values all, c.coded.ensures, c.coded-2.ensures, c.coded-3.ensures, c.coded-4.ensures, c.coded-5.ensures)
