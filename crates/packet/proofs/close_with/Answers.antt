@@ -1,15 +1,9 @@
 -- The length byte stands before the packet, and behind it what both add up to.
 use Rattle.std.proofs.Common.{◌≡◌, ◌+◌, ◌%◌, [], ◌∷◌, length, take, drop, refl, arith, length-drop, length-take}
-use Rattle.octets.proofs.Choosing.{below, above}
+use Rattle.octets.proofs.Choosing.{above}
 use Rattle.octets.proofs.Overlay.{put-over, put_rest}
 use Rattle.packet.proofs.Frames.{headed-over}
 use Rattle.packet.proofs.close_with.Goals as goal
-
-pub returns-then-n-gt-LONGEST_PACKET : goal.returns-then-n-gt-LONGEST_PACKET
-returns-then-n-gt-LONGEST_PACKET c = below _ _ _ _ _ (omega arith) refl
-
-pub returns-then-out-end : goal.returns-then-out-end
-returns-then-out-end c = above _ _ _ _ _ (omega arith) (below _ _ _ _ _ (omega arith) refl)
 
 pub returns : goal.returns
 returns c =

@@ -7,9 +7,6 @@ use Rattle.packet.specs.Frame.{total}
 use Rattle.packet.proofs.Frames.{total-turn}
 use Rattle.packet.proofs.copy.Goals as goal
 
-pub returns-then-out-bytes : goal.returns-then-out-bytes
-returns-then-out-bytes c = record { out_after = search tests; sum_of = refl }
-
 pub loop-i-init : goal.loop-i-init
 unfolding over total
 loop-i-init c = (omega arith, refl, refl, refl)

@@ -5,9 +5,6 @@ use Rattle.octets.proofs.Overlay.{put-over, over-from}
 use Rattle.packet.proofs.Frames.{length-frame, sum-put, closed}
 use Rattle.packet.proofs.frame.Goals as goal
 
-pub returns-then-n-gt-LONGEST_PACKET : goal.returns-then-n-gt-LONGEST_PACKET
-returns-then-n-gt-LONGEST_PACKET c = below _ _ _ _ _ (omega arith) refl
-
 pub returns-then-out-n : goal.returns-then-out-n
 returns-then-out-n c = rw length-frame (above _ _ _ _ _ (omega arith) (below _ _ _ _ _ (omega arith) refl))
 
