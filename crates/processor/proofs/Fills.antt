@@ -1,11 +1,10 @@
 -- A memory filled from its start.
 use Prim.Native.Nat.{ℕ, ◌+◌, ◌<◌}
-use mathlib.Core.Path.{◌≡◌, refl, sym, ap, ◌∙◌}
-use mathlib.Core.List.{List, [], ◌∷◌, ◌++◌}
-use native.Mathlib.Omega.{arith}
+use mathlib.Core.Path.{◌≡◌, sym, ap, ◌∙◌}
+use mathlib.Core.List.{List}
 use lib.ListN.{length, set, replicate, length-replicate, replicate-append-replicate}
 use Rattle.octets.specs.Over.{over}
-use Rattle.octets.proofs.Overlay.{over-snoc, over-whole, length_over}
+use Rattle.octets.proofs.Overlay.{over-snoc, over-whole}
 
 module _ (l : List ℕ) (x i : ℕ) {o : List ℕ} (wrote : o ≡ over (replicate i x) l) where
   pub fill-next : i < length l → set o i x ≡ over (replicate (i + 1) x) l

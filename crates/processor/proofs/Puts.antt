@@ -4,13 +4,13 @@ use mathlib.Core.Path.{◌≡◌, refl, sym, ap, ◌∙◌}
 use mathlib.Core.Bool.{Bool, true, false}
 use mathlib.Core.List.{List, [], ◌∷◌, ◌++◌}
 use native.Mathlib.Omega.{arith}
-use lib.ListN.{length, take, drop, length-take, length-drop}
+use lib.ListN.{length, take, drop, length-take}
 use lib.Seq.{get_or-take, get_or-drop, get_or-append-add, take_at}
 use Rattle.octets.specs.Number.{at}
 use Rattle.octets.specs.Over.{over, over_at}
 use Rattle.octets.proofs.Choosing.{either_lt, either-eq}
 use Rattle.octets.proofs.Overlay.{put-inside}
-use Rattle.processor.specs.Memory.{Memory, Store, to_eeprom, to_settings, store_one, put_at}
+use Rattle.processor.specs.Memory.{Memory, Store, to_eeprom, to_settings, store_one}
 use Rattle.processor.specs.Puts.{puts_byte, puts_word, or_before, Within}
 
 -- in one list behind another

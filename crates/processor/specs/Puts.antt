@@ -3,7 +3,7 @@ use Rattle.std.specs.Prelude.{ℕ, ◌+◌, ◌-◌, ◌≤◌, ◌<◌, List, [
 use Rattle.std.proofs.Math.Option.{Option, none, some}
 use Rattle.octets.specs.Choice.{if_lt, if_eq}
 use Rattle.octets.specs.Number.{at}
-use Rattle.processor.specs.Memory.{Memory, Store, to_eeprom, to_settings}
+use Rattle.processor.specs.Memory.{Store, to_eeprom, to_settings}
 
 -- at an address of the EEPROM
 abbrev pub puts_byte : Store → ℕ → Option ℕ

@@ -46,6 +46,7 @@ pub fn bare(
 }
 
 // Meters are addresses of settings.
+#[tactic(auto, using(octets::proofs::Choosing::tests))]
 pub fn new(
     hw_id: u8,
     dsp_version: u8,

@@ -56,6 +56,7 @@ pub fn set_timestamp(value: u32, eeprom: &mut [u8]) -> Done
     Done::Done
 }
 
+#[tactic(auto, using(octets::proofs::Choosing::tests))]
 fn write_bytes(addr: u16, bytes: &[u8], eeprom: &mut [u8]) -> Done
     ensures { (done result, eeprom.new) ≡ write_bytes addr bytes.now eeprom.old }
 {

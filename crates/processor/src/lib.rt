@@ -26,6 +26,7 @@ pub struct Device {
 pub const LARGEST: usize = 65536;
 
 // Whether a memory is too large.
+#[tactic(auto, using(octets::proofs::Choosing::tests))]
 pub fn too_large(eeprom: usize, settings: usize) -> bool
     ensures { result ≡ too_large eeprom settings }
 {

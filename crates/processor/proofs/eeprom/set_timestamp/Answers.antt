@@ -13,7 +13,6 @@ returns-then-eeprom c = above _ _ _ _ _ (omega arith) (below _ _ _ _ _ (omega ar
 
 pub returns : goal.returns
 returns c =
-    let a = c.args in
-    stamped a.value a.eeprom.now c.if-eeprom-gt-LARGEST.false (omega (arith, c.if-eeprom.false))
+    stamped c.args.value c.args.eeprom.now c.if-eeprom-gt-LARGEST.false (omega (arith, c.if-eeprom.false))
     (rw c.big_bytes32.ensures at c.put_at.ensures)
     (rw c.big_bytes16.ensures at c.put_at-2.ensures)
