@@ -35,6 +35,7 @@ pub fn matches_response(command: Commands, response: Responses) -> bool
     }
 }
 
+#[tactic(auto, using(octets::proofs::Choosing::tests))]
 fn is_memory(response: Responses, addr: u16, size: u8) -> bool
     ensures { result ≡ is_memory addr size (by_kind response).memory }
 {
@@ -50,6 +51,7 @@ fn is_memory(response: Responses, addr: u16, size: u8) -> bool
     }
 }
 
+#[tactic(auto, using(octets::proofs::Choosing::tests))]
 fn are_floats(response: Responses, addr: u16, len: u8) -> bool
     ensures { result ≡ are_floats addr len (by_kind response).floats }
 {

@@ -3,7 +3,6 @@ use mathlib.Core.Path.{refl}
 use Rattle.octets.proofs.Parts.{found_inside}
 use Rattle.octets.proofs.Choosing.{above, tests}
 use native.Mathlib.Omega.{arith}
-use Rattle.octets.specs.Place.{is_outside}
 use Rattle.responses.proofs.chunk.Goals as goal
 
 pub returns-then-is_outside : goal.returns-then-is_outside

@@ -30,4 +30,4 @@ returns-in-171 c = rw c.in-171.is
 
 pub returns-in_default : goal.returns-in_default
 unfolding response_by
-returns-in_default c = let rest = c.in_default.in_default-own.rest in rw c.rest_of.ensures (search tests depth 20)
+returns-in_default c = rw c.rest_of.ensures (search tests depth 20)
