@@ -15,7 +15,7 @@ pub returns : goal.returns
 returns c =
     let taken = c.taken-len.ensures in
     let a = c.args in
-    let room : a.size ≤ length a.«data».now = omega (arith, c.requires) in (
-      memory-length a.eeprom.now a.«data».now a.base a.size taken.0 taken.1 room c.part-part.ensures,
-      memory-put a.eeprom.now a.«data».now a.base a.size taken.0 taken.1 room c.part-part.ensures c.put.ensures (first_of (a.size - c.taken-len.result) 1020 255 (omega (arith, c.requires))) c.put-2.ensures,
+    let room : a.size ≤ length a.data.now = omega (arith, c.requires) in (
+      memory-length a.eeprom.now a.data.now a.base a.size taken.0 taken.1 room c.part-part.ensures,
+      memory-put a.eeprom.now a.data.now a.base a.size taken.0 taken.1 room c.part-part.ensures c.put.ensures (first_of (a.size - c.taken-len.result) 1020 255 (omega (arith, c.requires))) c.put-2.ensures,
     )

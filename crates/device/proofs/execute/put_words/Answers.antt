@@ -17,7 +17,7 @@ returns-then-settings-base c =
     let a = c.args in
     let d = drop a.base a.settings.now in
     let end = words-all c.loop-i.i d c.loop-i.invariant.1 a.count c.loop-i.invariant.0 (omega (arith, length-drop a.base a.settings.now, c.if-settings-base.true)) in
-    words-finish c.loop-i.i d c.loop-i.invariant.1 a.count a.«data».now end c.loop-i.invariant.3
+    words-finish c.loop-i.i d c.loop-i.invariant.1 a.count a.data.now end c.loop-i.invariant.3
 
 pub loop-i-smaller : goal.loop-i-smaller
 loop-i-smaller c = omega arith
@@ -27,13 +27,13 @@ loop-i-preserved c =
     let a = c.args in
     let d = drop a.base a.settings.now in
     let more : c.loop-i.i < length d = omega (arith, length-drop a.base a.settings.now, c.if-settings-base.false) in
-    let room : c.loop-i.i * 4 + 4 ≤ length a.«data».now = omega arith in
-    let wrote = words-next c.loop-i.i d a.«data».now more room c.loop-i.invariant.3 (c.little_bytes32-bytes.ensures ∙ ap (little_bytes 4) (sym (get_or-drop a.base a.settings.now c.loop-i.i 0))) c.put.ensures in
-    (omega arith, omega arith, ap length wrote ∙ words-room c.loop-i.i d a.«data».now more room, wrote)
+    let room : c.loop-i.i * 4 + 4 ≤ length a.data.now = omega arith in
+    let wrote = words-next c.loop-i.i d a.data.now more room c.loop-i.invariant.3 (c.little_bytes32-bytes.ensures ∙ ap (little_bytes 4) (sym (get_or-drop a.base a.settings.now c.loop-i.i 0))) c.put.ensures in
+    (omega arith, omega arith, ap length wrote ∙ words-room c.loop-i.i d a.data.now more room, wrote)
 
 pub returns : goal.returns
 returns c =
     let a = c.args in
     let d = drop a.base a.settings.now in
     let same : a.count ≡ c.loop-i.i = omega (arith, c.loop-i-test.false) in
-    words-finish c.loop-i.i d c.loop-i.invariant.1 a.count a.«data».now (ap (λ (n : ℕ). take n d) same) c.loop-i.invariant.3
+    words-finish c.loop-i.i d c.loop-i.invariant.1 a.count a.data.now (ap (λ (n : ℕ). take n d) same) c.loop-i.invariant.3

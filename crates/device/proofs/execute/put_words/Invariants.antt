@@ -8,7 +8,7 @@ use Rattle.device.proofs.execute.put_words.Given as goal
 
 abbrev pub invariant-loop-i : goal.invariant-loop-i
 invariant-loop-i l =
-    (l.i ≤ l.count) × (l.i ≤ length (drop l.base l.settings)) × (length «data» ≡ length l.initial.data) × («data» ≡ over (word_bytes (take l.i (drop l.base l.settings))) l.initial.data)
+    (l.i ≤ l.count) × (l.i ≤ length (drop l.base l.settings)) × (length l.data ≡ length l.initial.data) × (l.data ≡ over (word_bytes (take l.i (drop l.base l.settings))) l.initial.data)
 
 abbrev pub decreases-loop-i : goal.decreases-loop-i
 decreases-loop-i l = l.count - l.i
