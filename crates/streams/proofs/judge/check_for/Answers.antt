@@ -7,12 +7,13 @@ use Rattle.streams.specs.Inside.{no_fault}
 use Rattle.streams.specs.Judge.{read_sized, checked_for}
 use Rattle.streams.proofs.Judging.{still-sound}
 use Rattle.streams.proofs.judge.check_for.Goals as goal
+use Rattle.streams.proofs.judge.check_for.Goals.{Else-save-gt-LONGEST_SAVE}
 
 -- what is left to judge of a save that is not too long
-short : (d : tie.Else2) → let a = d.before.before.before.before.args in
+short : (c : Else-save-gt-LONGEST_SAVE) → let a = c.args in
     no_fault (checked_for a.e a.s a.save.now) ≡ no_fault (and_then (shape_of a.save.now) (read_sized a.e a.s a.save.now))
 unfolding checked_for
-short d = rw (← d.before.before.too_large.ensures, d.before.if1.false) (ap no_fault (sym (above _ _ _ _ _ d.if2.false refl)))
+short c = rw (← c.too_large.ensures, c.if-too_large.false) (ap no_fault (sym (above _ _ _ _ _ c.if-save-gt-LONGEST_SAVE.false refl)))
 
 pub returns-then-too_large : goal.returns-then-too_large
 unfolding checked_for
@@ -24,17 +25,16 @@ returns-then-save-gt-LONGEST_SAVE c = rw (← c.too_large.ensures, c.if-too_larg
 
 pub returns-then-shape-e : goal.returns-then-shape-e
 returns-then-shape-e c =
-    rw (short c, ← c.shape_of.ensures, c.in-Sound.is, ← other _ _ _ _ _ c.if-shape-e.true refl)
+    rw (short (goal.at.returns-then-shape-e c).Else-save-gt-LONGEST_SAVE, ← c.shape_of.ensures, c.in-Sound.is, ← other _ _ _ _ _ c.if-shape-e.true refl)
 
 pub returns-then-shape-s : goal.returns-then-shape-s
 returns-then-shape-s c =
-    rw (short c, ← c.shape_of.ensures, c.in-Sound.is, ← same _ _ _ _ _ c.if-shape-e.false refl, ← other _ _ _ _ _ c.if-shape-s.true refl)
+    rw (short (goal.at.returns-then-shape-s c).Else-save-gt-LONGEST_SAVE, ← c.shape_of.ensures, c.in-Sound.is, ← same _ _ _ _ _ c.if-shape-e.false refl, ← other _ _ _ _ _ c.if-shape-s.true refl)
 
 pub returns-else-shape-s : goal.returns-else-shape-s
 returns-else-shape-s c =
-    let shape = c.shape-1 in
-    rw (short c, ← c.shape_of.ensures, shape.given.1, ← same _ _ _ _ _ c.if-shape-e.false refl, ← same _ _ _ _ _ c.if-shape-s.false refl, still-sound shape.given.0.0, c.if-shape-e.false, c.if-shape-s.false, ← c.fields_of.ensures)
+    rw (short (goal.at.returns-else-shape-s c).Else-save-gt-LONGEST_SAVE, ← c.shape_of.ensures, c.in-Sound.is, ← same _ _ _ _ _ c.if-shape-e.false refl, ← same _ _ _ _ _ c.if-shape-s.false refl, still-sound c.in-Sound.shape, c.if-shape-e.false, c.if-shape-s.false, ← c.fields_of.ensures)
     c.scan.ensures
 
 pub returns-in-Refused : goal.returns-in-Refused
-returns-in-Refused c = rw (short c, ← c.shape_of.ensures, c.in-Refused.is)
+returns-in-Refused c = rw (short (goal.at.returns-in-Refused c).Else-save-gt-LONGEST_SAVE, ← c.shape_of.ensures, c.in-Refused.is)
