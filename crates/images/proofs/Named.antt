@@ -3,7 +3,6 @@ use Rattle.std.proofs.Common.{◌≡◌, ℕ, ◌/◌, ◌%◌, ◌^◌, false, 
 use mathlib.Core.List.Memᴰ
 use native.Mathlib.Nat.{zero-div}
 use lib.ListN.{get_or-replicate, length-replicate}
-use Rattle.octets.specs.Number.{at}
 use Rattle.intel_hex.specs.Format.{HexRow, row_end, Names, ApartFrom}
 use Rattle.intel_hex.specs.Faults.{Twice}
 use Rattle.images.specs.Inside.{one_in, named_bit, Marked, MarksRow}

@@ -18,6 +18,7 @@ const ROW: usize = 16;
 const AROUND: usize = 12;
 
 // Writes the EEPROM's text over the start of out.
+#[tactic(auto, using(octets::proofs::Choosing::tests))]
 pub fn export(eeprom: &[u8], out: &mut [u8]) -> Written
     ensures { (written result, out.new) ≡ exported_into eeprom.now out.old }
 {

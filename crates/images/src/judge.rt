@@ -95,6 +95,7 @@ fn last_line(line: Line) -> Step
 }
 
 // The end record, behind which the text must end.
+#[tactic(auto, using(octets::proofs::Choosing::tests))]
 fn end_line(end: usize, len: usize) -> Step
     ensures { result ≡ if_lt end len (Refused malformed) End }
 {

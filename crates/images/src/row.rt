@@ -78,6 +78,7 @@ pub fn look_at(line: &[u8]) -> Line
     read_line(line, &mut bytes)
 }
 
+#[tactic(auto, using(octets::proofs::Choosing::tests), unfolding(intel_hex::specs::Reading::record_in))]
 fn record_of(bytes: &[u8]) -> Line
     ensures { (lined bytes.now result ≡ record_in bytes.now) × Held (length bytes.now) result }
 {
@@ -101,6 +102,7 @@ fn record_of(bytes: &[u8]) -> Line
     Line::Row { start, count }
 }
 
+#[tactic(auto, using(octets::proofs::Choosing::tests))]
 fn end_of(bytes: &[u8]) -> Line
     ensures { (lined bytes.now result ≡ end_in bytes.now) × Held (length bytes.now) result }
 {

@@ -7,6 +7,7 @@ use octets::{Done, refusal};
 use processor::LARGEST;
 
 // Stores an image of as many bytes as the EEPROM has.
+#[tactic(auto, using(octets::proofs::Choosing::tests))]
 pub fn store_image(image: &[u8], eeprom: &mut [u8]) -> Done
     ensures { (done result, eeprom.new) ≡ stored_image image.now eeprom.old }
 {

@@ -1,14 +1,11 @@
 -- The rows, and the end record behind them.
 use Rattle.std.proofs.Common.{ℕ, ◌+◌, ◌*◌, [], ◌∷◌, ◌++◌, length, sym, refl, arith}
-use Rattle.octets.proofs.Choosing.{below, above, tests}
+use Rattle.octets.proofs.Choosing.{below, above}
 use Rattle.octets.proofs.Overlay.{put_rest}
 use Rattle.intel_hex.specs.Format.{end_text}
 use Rattle.intel_hex.specs.Writing.{export_rows, rows_for, export_of, export_room}
 use Rattle.intel_hex.proofs.Written.{rows_whole, length-export}
 use Rattle.images.proofs.export.export.Goals as goal
-
-pub returns-then-eeprom-gt-LARGEST : goal.returns-then-eeprom-gt-LARGEST
-returns-then-eeprom-gt-LARGEST c = search tests
 
 pub returns-then-out-end : goal.returns-then-out-end
 unfolding export_room rows_for

@@ -1,5 +1,5 @@
 -- After k turns the first k rows stand over the output.
-use Rattle.std.proofs.Common.{◌≡◌, ◌+◌, ◌-◌, ◌*◌, ◌≤◌, length, refl, arith, length-drop, length-take}
+use Rattle.std.proofs.Common.{◌≡◌, ◌+◌, ◌*◌, ◌≤◌, length, refl, arith, length-drop, length-take}
 use Rattle.intel_hex.specs.Writing.{export_rows}
 use Rattle.intel_hex.proofs.Written.{export_line, length-line, length-rows}
 use Rattle.images.proofs.Exported.{rows_none, rows_next}
@@ -9,7 +9,7 @@ pub loop-k-init : goal.loop-k-init
 loop-k-init c = (omega arith, (refl, rows_none _ _))
 
 pub put_row-requires : goal.put_row-requires
-put_row-requires c = ((omega arith, omega arith), simp (length-take, length-drop) (omega arith))
+put_row-requires c = record { k_in_bounds = (omega arith, omega arith); k_in_bounds_2 = simp (length-take, length-drop) (omega arith) }
 
 pub loop-k-smaller : goal.loop-k-smaller
 loop-k-smaller c = omega arith

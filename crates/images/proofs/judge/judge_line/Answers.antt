@@ -12,11 +12,10 @@ returns-then-n-rest c =
 pub returns-in-Row : goal.returns-in-Row
 returns-in-Row c =
     let fit = c.judge_row in
-    let line = c.line-1 in
     let a = c.args in
-    let told = rw (c.line_of.ensures, line.given.1) at c.look_at-line.ensures in
+    let told = rw (c.line_of.ensures, c.in-Row.is) at c.look_at-line.ensures in
     let says = told-row _ _ _ told in
-    row_step a.size a.rest.now a.marks.now fit.new.1.1.1.0 (omega (arith, c.until-n.ensures.0, c.until-n.ensures.1, c.if-n-rest.false)) (omega arith) says.row says.is fit.result (rw (says.starts, says.counts) fit.ensures)
+    row_step a.size a.rest.now a.marks.now fit.new.marks (omega (arith, c.until-n.ensures.0, c.until-n.ensures.1, c.if-n-rest.false)) (omega arith) says.row says.is fit.result (rw (says.starts, says.counts) fit.ensures)
 
 pub returns-in-End : goal.returns-in-End
 returns-in-End c =

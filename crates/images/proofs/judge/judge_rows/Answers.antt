@@ -34,4 +34,4 @@ loop-k-preserved c =
     let inv = c.loop-k.invariant in
     let more = rw c.in-Row.is at c.judge_line.ensures in
     let next = more.1 inv.1 inv.2 in
-    (c.judge_line.auto.1.1.0 ∙ inv.0, inv.1 ++ (next.0 ∷ []), next.1, rw (cut-behind _ _ c.line_end-n.ensures.1) (sym next.2 ∙ inv.3))
+    (c.judge_line.auto.marks ∙ inv.0, inv.1 ++ (next.0 ∷ []), next.1, rw (cut-behind _ _ c.line_end-n.ensures.1) (sym next.2 ∙ inv.3))

@@ -17,7 +17,7 @@ returns-then-before-bit-eq1 c = rw (one_bit (c.args.place % 8) (omega arith)) at
 pub overflow_add-marks : goal.overflow_add-marks
 overflow_add-marks c =
     let a = c.args in
-    let fits = set-byte (at a.marks.now (a.place / 8)) (a.place % 8) (clear _ a.place c.if-before-bit-eq1.false) (omega arith) (omega (arith, c.slice_known-1.given (a.place / 8))) in
+    let fits = set-byte (at a.marks.now (a.place / 8)) (a.place % 8) (clear _ a.place c.if-before-bit-eq1.false) (omega arith) (search rules) in
     rw (one_bit (a.place % 8) (omega arith)) (omega (arith, fits))
 
 pub returns : goal.returns

@@ -1,5 +1,5 @@
 -- After each turn the bytes before the place are marked, and none of them was.
-use Rattle.std.proofs.Common.{◌≡◌, ℕ, ◌+◌, ◌-◌, ◌<◌, ◌≤◌, ◌⊎◌, List, sym, refl, ◌∙◌, inl, inr, arith}
+use Rattle.std.proofs.Common.{◌≡◌, ℕ, ◌+◌, ◌<◌, ◌≤◌, ◌⊎◌, List, sym, refl, ◌∙◌, inl, inr, arith}
 use Rattle.octets.proofs.Choosing.{lt-or-le}
 use Rattle.images.specs.Inside.{bit_at}
 use Rattle.images.proofs.Marking.{one_outside, one_further}

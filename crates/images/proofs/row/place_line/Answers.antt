@@ -5,9 +5,8 @@ use Rattle.images.proofs.row.place_line.Goals as goal
 pub returns-in-Row : goal.returns-in-Row
 returns-in-Row c =
     let put = c.put_at in
-    let told = c.start-1 in
     let a = c.args in
-    row-placed a.line.now c.read_line.new.1.0 a.image.now _ _ _ (rw told.given.1 at c.read_line.ensures.0) put.ensures
+    row-placed a.line.now c.read_line.new.bytes a.image.now _ _ _ (rw c.in-Row.is at c.read_line.ensures.0) put.ensures
 
 pub returns-in-End : goal.returns-in-End
 returns-in-End c = rw (← c.read_line.ensures.0, c.in-End.is)

@@ -31,10 +31,9 @@ slice_bounds-record_of-end c =
 pub returns-in-Bytes : goal.returns-in-Bytes
 returns-in-Bytes c =
     let a = c.args in
-    let n = c.n-1 in
     let colon = sym c.byte.ensures ∙ c.if-byte-ne58.false in
-    let reading = well-read a.line.now colon a.bytes.now (search rules) _ _ (rw (digits_are a.line.now, n.given.1) at c.read_pairs.ensures) in
-    let z : n.given.0.0 - 0 ≡ n.given.0.0 = omega arith in
+    let reading = well-read a.line.now colon a.bytes.now (search rules) _ _ (rw (digits_are a.line.now, c.in-Bytes.is) at c.read_pairs.ensures) in
+    let z : c.in-Bytes.n - 0 ≡ c.in-Bytes.n = omega arith in
     line_read a.line.now colon _ _ reading _ (rw z) c.record_of.result c.record_of.ensures
 
 pub returns-in-Bad : goal.returns-in-Bad

@@ -1,14 +1,8 @@
 -- An image of the EEPROM's size is put over the whole of it.
 use Rattle.std.proofs.Common.{refl, ◌∙◌, arith}
-use Rattle.octets.proofs.Choosing.{above, same, tests}
+use Rattle.octets.proofs.Choosing.{above, same}
 use Rattle.octets.proofs.Overlay.{put-over, over-whole}
 use Rattle.images.proofs.store.store_image.Goals as goal
-
-pub returns-then-eeprom-gt-LARGEST : goal.returns-then-eeprom-gt-LARGEST
-returns-then-eeprom-gt-LARGEST c = search tests
-
-pub returns-then-image-eeprom : goal.returns-then-image-eeprom
-returns-then-image-eeprom c = search tests
 
 pub returns : goal.returns
 returns c =
