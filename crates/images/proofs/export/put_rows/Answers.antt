@@ -1,5 +1,5 @@
 -- After k turns the first k rows stand over the output.
-use Rattle.std.proofs.Common.{◌≡◌, ◌+◌, ◌*◌, ◌≤◌, length, refl, arith, length-drop, length-take}
+use Rattle.std.proofs.Common.{◌≡◌, ◌+◌, ◌*◌, ◌≤◌, length, refl, arith}
 use Rattle.intel_hex.specs.Writing.{export_rows}
 use Rattle.intel_hex.proofs.Written.{export_line, length-line, length-rows}
 use Rattle.images.proofs.Exported.{rows_none, rows_next}
@@ -7,12 +7,6 @@ use Rattle.images.proofs.export.put_rows.Goals as goal
 
 pub loop-k-init : goal.loop-k-init
 loop-k-init c = (omega arith, (refl, rows_none _ _))
-
-pub put_row-requires : goal.put_row-requires
-put_row-requires c = record { k_in_bounds = (omega arith, omega arith); k_in_bounds_2 = simp (length-take, length-drop) (omega arith) }
-
-pub loop-k-smaller : goal.loop-k-smaller
-loop-k-smaller c = omega arith
 
 pub loop-k-preserved : goal.loop-k-preserved
 loop-k-preserved c =
@@ -22,6 +16,3 @@ loop-k-preserved c =
     let is : 44 * k ≡ length (export_rows e k) = omega (arith, length-rows e k) in
     let room : 44 * k + length (export_line e k) ≤ length a.out.now = omega (arith, length-line e k) in
     (omega arith, rows_next e k (44 * k) a.out.now is room c.loop-k.invariant.1.1 c.put_row.ensures)
-
-pub returns : goal.returns
-returns c = let all : c.args.rows ≡ c.loop-k.k = omega (arith, c.loop-k-test.false) in rw all c.loop-k.invariant.1.1

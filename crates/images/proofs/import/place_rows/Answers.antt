@@ -1,11 +1,8 @@
 -- What is left to place, placed, is what all of it is.
-use Rattle.std.proofs.Common.{sym, refl, ◌∙◌}
+use Rattle.std.proofs.Common.{sym, ◌∙◌}
 use Rattle.images.proofs.Lines.{cut-behind}
 use Rattle.images.proofs.Placing.{placed-more, placed-last, placed-some}
 use Rattle.images.proofs.import.place_rows.Goals as goal
-
-pub loop-rest-init : goal.loop-rest-init
-loop-rest-init c = (refl, refl)
 
 pub loop-rest-smaller : goal.loop-rest-smaller
 loop-rest-smaller c =

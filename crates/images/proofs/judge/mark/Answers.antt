@@ -1,5 +1,5 @@
 -- The bit, by what the byte is that has it.
-use Rattle.std.proofs.Common.{◌≡◌, ℕ, ◌*◌, ◌/◌, ◌%◌, ◌^◌, arith, pow_pos, rules}
+use Rattle.std.proofs.Common.{◌≡◌, ℕ, ◌*◌, ◌/◌, ◌%◌, ◌^◌, arith, rules}
 use Rattle.octets.specs.Number.{at}
 use Rattle.images.proofs.Bits.{one_bit, set-byte, one-marked}
 use Rattle.images.proofs.judge.mark.Goals as goal
@@ -7,12 +7,6 @@ use Rattle.images.proofs.judge.mark.Goals as goal
 -- a bit that is not 1 is 0
 clear : (w j : ℕ) → (w / (1 * 2 ^ (j % 8) % 256) % 2 ≡ 1 → ⊥) → w / 2 ^ (j % 8) % 2 ≡ 0
 clear w j h = let g : w / 2 ^ (j % 8) % 2 ≡ 1 → ⊥ = rw (one_bit (j % 8) (omega arith)) at h in omega (arith, g)
-
-pub nonzero_div-before-2 : goal.nonzero_div-before-2
-nonzero_div-before-2 c = rw (one_bit (c.args.place % 8) (omega arith)) (pow_pos (c.args.place % 8))
-
-pub returns-then-before-bit-eq1 : goal.returns-then-before-bit-eq1
-returns-then-before-bit-eq1 c = rw (one_bit (c.args.place % 8) (omega arith)) at c.if-before-bit-eq1.true
 
 pub overflow_add-marks : goal.overflow_add-marks
 overflow_add-marks c =

@@ -16,9 +16,6 @@ earlier s p l none one i h g = go (lt-or-le i p)
 pub loop-place-init : goal.loop-place-init
 loop-place-init c = (omega arith, omega arith, refl, (λ i h g. absurd (omega arith)), λ i. sym (one_outside _ _ i _ (λ h g. omega arith)))
 
-pub mark-requires : goal.mark-requires
-mark-requires c = (omega arith, omega arith)
-
 pub returns-then-mark : goal.returns-then-mark
 returns-then-mark c =
     let marked = rw c.if-mark.true at c.mark.ensures in
@@ -35,9 +32,3 @@ loop-place-preserved c =
       (λ i h g. earlier c.args.start p c.args.marks.now c.loop-place.invariant.3 was i h g),
       λ i. one.2 i ∙ rw (c.loop-place.invariant.4 i) (one_further c.args.start p i _ (omega arith)),
     )
-
-pub returns : goal.returns
-returns c = let e = c.args.start + c.args.count in let last : c.loop-place.place ≡ e = omega arith in ((λ i h g. c.loop-place.invariant.3 i h (omega arith)), c.loop-place.invariant.2, λ i. rw (← last) (c.loop-place.invariant.4 i))
-
-pub loop-place-smaller : goal.loop-place-smaller
-loop-place-smaller c = omega arith

@@ -7,9 +7,3 @@ returns-in-Row c =
     let put = c.put_at in
     let a = c.args in
     row-placed a.line.now c.read_line.new.bytes a.image.now _ _ _ (rw c.in-Row.is at c.read_line.ensures.0) put.ensures
-
-pub returns-in-End : goal.returns-in-End
-returns-in-End c = rw (← c.read_line.ensures.0, c.in-End.is)
-
-pub returns-in-Refused : goal.returns-in-Refused
-returns-in-Refused c = rw (← c.read_line.ensures.0, c.in-Refused.is)

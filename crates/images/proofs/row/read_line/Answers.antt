@@ -15,12 +15,6 @@ digits_are l = take_all (length l - 1) (drop 1 l) (omega (arith, length-drop 1 l
 pub returns-then-byte-ne58 : goal.returns-then-byte-ne58
 returns-then-byte-ne58 c = (no-colon _ (λ e. c.if-byte-ne58.true (c.byte.ensures ∙ e)), tt)
 
-pub slice_bounds-read_pairs-count : goal.slice_bounds-read_pairs-count
-slice_bounds-read_pairs-count c = colon-first c.args.line.now (sym c.byte.ensures ∙ c.if-byte-ne58.false)
-
-pub slice_bounds-read_pairs-start : goal.slice_bounds-read_pairs-start
-slice_bounds-read_pairs-start c = colon-first c.args.line.now (sym c.byte.ensures ∙ c.if-byte-ne58.false)
-
 pub slice_bounds-record_of-end : goal.slice_bounds-record_of-end
 slice_bounds-record_of-end c =
     let a = c.args in
