@@ -1,25 +1,36 @@
 // Lines in, answers out, each at once.
-ghost use Rattle.std.specs.Prelude.{◌+◌, ◌≤◌, length, ◌≡◌};
+ghost use Rattle.std.specs.Prelude.{◌+◌, ◌≤◌, length, ◌≡◌, IfOk};
 
 use crate::held;
 use crate::request::answer;
-use libc::STDIN_FILENO;
+use std::io;
+use std::io::Read;
+use std::rt::Files;
 
 // Far more turns than any input takes, so that the loop has an end.
 const TURNS: u64 = 0xffff_ffff_ffff_ffff;
 
-pub fn run(
+pub fn run<R: Files + Print>(
+    rt: &R,
+    stdin: &mut impl Read,
     input: &mut [u8; 65536],
     eeprom: &mut [u8; 65537],
     settings: &mut [u32; 65537],
     kept: &mut [u8; 1048576],
-) {
-    serve(input, eeprom, settings, kept);
+) -> io::Result<()> {
+    serve(rt, stdin, input, eeprom, settings, kept)
 }
 
 // Answers each line of the input. The last one may lack its line end; of one that is too long the
 // start is dropped.
-fn serve(input: &mut [u8], eeprom: &mut [u8], settings: &mut [u32], kept: &mut [u8]) {
+fn serve<R: Files + Print>(
+    rt: &R,
+    stdin: &mut impl Read,
+    input: &mut [u8],
+    eeprom: &mut [u8],
+    settings: &mut [u32],
+    kept: &mut [u8],
+) -> io::Result<()> {
     let mut held = held::first();
     let mut lines = Lines {
         used: 0,
@@ -34,20 +45,21 @@ fn serve(input: &mut [u8], eeprom: &mut [u8], settings: &mut [u32], kept: &mut [
         let have = lines.have;
         let end = used + text::until(&input[used..have], b'\n');
         if end == have && !lines.ended {
-            lines = read_more(input, lines);
+            lines = read_more(stdin, input, lines)?;
             continue;
         }
         if used == have && !lines.long {
-            return;
+            return Ok(());
         }
         let line = &input[used..end];
-        let next = answer(line, lines.long, held, eeprom, settings, kept);
+        let next = answer(rt, line, lines.long, held, eeprom, settings, kept)?;
         held = next;
         if lines.ended {
-            return;
+            return Ok(());
         }
         lines = behind_line(lines, end);
     }
+    Ok(())
 }
 
 // How much of the input is used and how much there is, whether the start of its line is dropped, and
@@ -62,21 +74,21 @@ struct Lines {
 
 // Reads behind the line that is not ended yet, which goes to the front; where it fills the input, now or
 // before, it is too long.
-fn read_more(input: &mut [u8], lines: Lines) -> Lines
+fn read_more(stdin: &mut impl Read, input: &mut [u8], lines: Lines) -> io::Result<Lines>
     requires { (lines.used ≤ lines.have) × (lines.have ≤ length input.old) }
-    ensures { (result.used ≤ result.have) × (result.have ≤ length input.old) }
+    ensures { IfOk result (λ next. (next.used ≤ next.have) × (next.have ≤ length input.old)) }
 {
     let used = lines.used;
     let have = lines.have;
     let long = used == 0 && (lines.long || have == input.len());
     let kept = keep(input, used, have, long);
-    let came = read_behind(input, kept);
-    Lines {
+    let came = read_behind(stdin, input, kept)?;
+    Ok(Lines {
         used: 0,
         have: kept + came,
         long,
         ended: came == 0,
-    }
+    })
 }
 
 // Behind the line that ends there.
@@ -93,13 +105,11 @@ fn behind_line(lines: Lines, end: usize) -> Lines
 }
 
 // Reads behind the first `have` bytes, and answers how many bytes came.
-fn read_behind(input: &mut [u8], have: usize) -> usize
+fn read_behind(stdin: &mut impl Read, input: &mut [u8], have: usize) -> io::Result<usize>
     requires { have ≤ length input.old }
-    ensures { have + result ≤ length input.old }
+    ensures { IfOk result (λ n. have + n ≤ length input.old) }
 {
-    let got = libc::read(STDIN_FILENO, &mut input[have..]);
-    let space = &input[have..];
-    io::count(got, space)
+    stdin.read(&mut input[have..])
 }
 
 // Moves what is not used yet to the front, and answers how much that is: of a line that is too long

@@ -2,6 +2,7 @@
 use crate::held::*;
 use bench_words::*;
 use programs::files::*;
+use std::rt::Files;
 
 // One more than can be kept, so that a file that is longer is told.
 const MOST: usize = 1048577;
@@ -17,18 +18,18 @@ const UNREAD: u32 = 10;
 
 const LONG: u32 = 11;
 
-pub fn ask(verb: usize, name: &[u8], held: Answer, kept: &mut [u8]) -> Asked {
+pub fn ask(files: &impl Files, verb: usize, name: &[u8], held: Answer, kept: &mut [u8]) -> Asked {
     if verb == 1028 {
-        return read_save(name, held, kept);
+        return read_save(files, name, held, kept);
     }
-    same(write_save(name, head(&kept[..], held[KEPT])), held)
+    same(write_save(files, name, head(&kept[..], held[KEPT])), held)
 }
 
-fn write_save(name: &[u8], saved: &[u8]) -> Answer {
+fn write_save(files: &impl Files, name: &[u8], saved: &[u8]) -> Answer {
     if saved.len() == 0 {
         return by(NOTHING_KEPT, number(0));
     }
-    match write_file(name, saved) {
+    match write_file(files, name, saved) {
         Wrote::Whole => number(low(saved.len())),
         Wrote::Unopened => by(UNOPENED, number(0)),
         Wrote::Unwritten => by(UNWRITTEN, number(0)),
@@ -36,17 +37,23 @@ fn write_save(name: &[u8], saved: &[u8]) -> Answer {
 }
 
 // All of a file is read before anything that is kept changes.
-fn read_save(name: &[u8], held: Answer, kept: &mut [u8]) -> Asked {
+fn read_save(files: &impl Files, name: &[u8], held: Answer, kept: &mut [u8]) -> Asked {
     let mut came = [0u8; MOST];
-    read_and_keep(name, &mut came, held, kept)
+    read_and_keep(files, name, &mut came, held, kept)
 }
 
-fn read_and_keep(name: &[u8], came: &mut [u8; MOST], held: Answer, kept: &mut [u8]) -> Asked {
-    taken(name, came, held, kept)
+fn read_and_keep(
+    files: &impl Files,
+    name: &[u8],
+    came: &mut [u8; MOST],
+    held: Answer,
+    kept: &mut [u8],
+) -> Asked {
+    taken(files, name, came, held, kept)
 }
 
-fn taken(name: &[u8], came: &mut [u8], held: Answer, kept: &mut [u8]) -> Asked {
-    match read_file(name, came) {
+fn taken(files: &impl Files, name: &[u8], came: &mut [u8], held: Answer, kept: &mut [u8]) -> Asked {
+    match read_file(files, name, came) {
         Came::Bytes(n) => {
             octets::put(head(&came[..], low(n)), kept);
             keeping(n, held)

@@ -8,11 +8,20 @@ mod files;
 mod held;
 mod request;
 
-fn main() {
+use std::io;
+
+fn main(rt: HostRuntime) -> io::Result<()> {
     let mut input = [0u8; 65536];
     // one more than a device takes, so that a memory that is too large can be lent
     let mut eeprom = [0xffu8; 65537];
     let mut settings = [0u32; 65537];
     let mut kept = [0u8; 1048576];
-    console::run(&mut input, &mut eeprom, &mut settings, &mut kept);
+    console::run(
+        &rt,
+        &mut rt.stdin(),
+        &mut input,
+        &mut eeprom,
+        &mut settings,
+        &mut kept,
+    )
 }

@@ -2,26 +2,38 @@
 // only reads and writes: the text is the library's.
 #![tactic(auto)]
 
-use libc::STDIN_FILENO;
 use octets::Written;
 use programs::prints::*;
+use programs::reads::read_full;
+use std::io;
+use std::io::Read;
 
 // The input holds one byte more than is listed, so that a save that is too long is seen; the output
 // has room for every listing (crate listed, proofs/Fits.antt).
-fn main() {
+fn main(rt: HostRuntime) -> io::Result<()> {
     let mut input = [0u8; 32769];
     let mut output = [0u8; 65536];
-    run(&mut input, &mut output);
+    run(&rt, &mut rt.stdin(), &mut input, &mut output)
 }
 
-fn run(input: &mut [u8; 32769], output: &mut [u8; 65536]) {
-    read_and_print(input, output);
+fn run(
+    rt: &impl Print,
+    stdin: &mut impl Read,
+    input: &mut [u8; 32769],
+    output: &mut [u8; 65536],
+) -> io::Result<()> {
+    read_and_print(rt, stdin, input, output)
 }
 
-fn read_and_print(input: &mut [u8], output: &mut [u8]) {
-    let n = io::read_full(STDIN_FILENO, input);
+fn read_and_print(
+    rt: &impl Print,
+    stdin: &mut impl Read,
+    input: &mut [u8],
+    output: &mut [u8],
+) -> io::Result<()> {
+    let n = read_full(stdin, input)?;
     match listed::list(&input[0..n], output) {
-        Written::Bytes(len) => print_front(output, len),
-        Written::Refused(number) => print_refusal(number),
+        Written::Bytes(len) => print_front(rt, output, len),
+        Written::Refused(number) => print_refusal(rt, number),
     }
 }

@@ -1,19 +1,18 @@
-// What a program prints on standard output.
-use libc::STDOUT_FILENO;
+// What a program prints on standard output. Nothing is held back: what is printed is there when the call returns.
+use std::io;
 
-pub fn print(text: &[u8]) {
-    io::write_all(STDOUT_FILENO, text);
+pub fn print(rt: &impl Print, text: &[u8]) -> io::Result<()> {
+    rt.write_all(text)
 }
 
 // The first bytes of an output, where a text was written.
-pub fn print_front(output: &[u8], len: usize) {
+pub fn print_front(rt: &impl Print, output: &[u8], len: usize) -> io::Result<()> {
     if len <= output.len() {
-        io::write_all(STDOUT_FILENO, &output[0..len]);
+        rt.write_all(&output[0..len])?;
     }
+    Ok(())
 }
 
-pub fn print_refusal(number: u8) {
-    io::write_all(STDOUT_FILENO, b"refused ");
-    io::print_decimal(STDOUT_FILENO, number as u64);
-    io::write_all(STDOUT_FILENO, b"\n");
+pub fn print_refusal(rt: &impl Print, number: u8) -> io::Result<()> {
+    println!(rt; "refused {number}")
 }

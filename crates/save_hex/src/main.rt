@@ -3,11 +3,13 @@
 #![tactic(auto)]
 
 use images::export::export;
-use libc::STDIN_FILENO;
 use octets::{Done, Written};
 use programs::lent::*;
 use programs::prints::*;
+use programs::reads::read_full;
 use saves::replay::replay;
+use std::io;
+use std::io::Read;
 use streams::judge::judge;
 use streams::shape::Judged;
 
@@ -16,53 +18,80 @@ const LONGEST_READ: usize = 1048576;
 
 // The input holds one byte more than is read, so that a save that is too long is seen. The memories are
 // a bare device's, of the largest sizes; the output has room for the text of the largest.
-fn main() {
+fn main(rt: HostRuntime) -> io::Result<()> {
     let mut input = [0u8; 1048577];
     let mut eeprom = [0xffu8; 65536];
     let mut settings = [0u32; 65536];
     let mut output = [0u8; 180236];
-    run(&mut input, &mut eeprom, &mut settings, &mut output);
+    run(
+        &rt,
+        &mut rt.stdin(),
+        &mut input,
+        &mut eeprom,
+        &mut settings,
+        &mut output,
+    )
 }
 
 fn run(
+    rt: &impl Print,
+    stdin: &mut impl Read,
     input: &mut [u8; 1048577],
     eeprom: &mut [u8; 65536],
     settings: &mut [u32; 65536],
     output: &mut [u8; 180236],
-) {
-    read_and_print(input, eeprom, settings, output);
+) -> io::Result<()> {
+    read_and_print(rt, stdin, input, eeprom, settings, output)
 }
 
-fn read_and_print(input: &mut [u8], eeprom: &mut [u8], settings: &mut [u32], output: &mut [u8]) {
-    let n = io::read_full(STDIN_FILENO, input);
+fn read_and_print(
+    rt: &impl Print,
+    stdin: &mut impl Read,
+    input: &mut [u8],
+    eeprom: &mut [u8],
+    settings: &mut [u32],
+    output: &mut [u8],
+) -> io::Result<()> {
+    let n = read_full(stdin, input)?;
     if LONGEST_READ < n {
-        print(b"bad input: longer than 1048576 bytes\n");
-        return;
+        return print(rt, b"bad input: longer than 1048576 bytes\n");
     }
-    judge_and_print(&input[0..n], eeprom, settings, output);
+    judge_and_print(rt, &input[0..n], eeprom, settings, output)
 }
 
-fn judge_and_print(save: &[u8], eeprom: &mut [u8], settings: &mut [u32], output: &mut [u8]) {
+fn judge_and_print(
+    rt: &impl Print,
+    save: &[u8],
+    eeprom: &mut [u8],
+    settings: &mut [u32],
+    output: &mut [u8],
+) -> io::Result<()> {
     match judge(save) {
         Judged::Sound(shape) => {
             let e = front(eeprom, shape.eeprom);
             let s = front_words(settings, shape.settings);
-            print_restored(save, e, s, output);
+            print_restored(rt, save, e, s, output)
         }
-        Judged::Refused(number) => print_refusal(number),
+        Judged::Refused(number) => print_refusal(rt, number),
     }
 }
 
-fn print_restored(save: &[u8], eeprom: &mut [u8], settings: &mut [u32], output: &mut [u8]) {
+fn print_restored(
+    rt: &impl Print,
+    save: &[u8],
+    eeprom: &mut [u8],
+    settings: &mut [u32],
+    output: &mut [u8],
+) -> io::Result<()> {
     match replay(eeprom, settings, save) {
-        Done::Done => print_hex(&eeprom[..], output),
-        Done::Refused(number) => print_refusal(number),
+        Done::Done => print_hex(rt, &eeprom[..], output),
+        Done::Refused(number) => print_refusal(rt, number),
     }
 }
 
-fn print_hex(eeprom: &[u8], output: &mut [u8]) {
+fn print_hex(rt: &impl Print, eeprom: &[u8], output: &mut [u8]) -> io::Result<()> {
     match export(eeprom, output) {
-        Written::Bytes(len) => print_front(output, len),
-        Written::Refused(number) => print_refusal(number),
+        Written::Bytes(len) => print_front(rt, output, len),
+        Written::Refused(number) => print_refusal(rt, number),
     }
 }
