@@ -6,9 +6,8 @@ use Rattle.saves.proofs.replay.store_frame.Goals as goal
 
 pub returns-in-Is : goal.returns-in-Is
 returns-in-Is c =
-    let change = c.change-1 in
     let a = c.args in
-    let means = rw change.given.1 at c.meaning_of.ensures in
+    let means = rw c.in-Is.is at c.meaning_of.ensures in
     rw (← c.packet_in-packet.ensures, ← change-writes _ (length a.eeprom.now) (length a.settings.now) _ means) c.store.ensures
 
 pub returns-in-Refused : goal.returns-in-Refused

@@ -9,39 +9,36 @@ use Rattle.streams.specs.Stream.{tag_of}
 use Rattle.streams.proofs.Streams.{tag-whole, cut-behind, behind-shorter}
 use Rattle.saves.proofs.Storing.{none-stored, frame-stored}
 use Rattle.saves.proofs.replay.store_frames.Goals as goal
+use Rattle.saves.proofs.replay.store_frames.Goals.{In-loop-rest}
 
 -- the frame at the front of what is left
-module _ (d : tie.After-content-of invariant-loop decreases-loop) where
-  abbrev left : List ℕ
-  left = d.before.before.before.loop.rest.now
-
-  is-frame : tag_of left ≡ 0x10
-  is-frame = sym d.before.before.tag_of.ensures ∙ d.before.if1.taken
+is-frame : (c : In-loop-rest) → tag_of c.loop-rest.rest.now ≡ 0x10
+is-frame c = sym c.tag_of.ensures ∙ c.loop-rest-test.true
 
 pub loop-rest-init : goal.loop-rest-init
 loop-rest-init c = (refl, refl, refl)
 
 pub slice_bounds-rest-count : goal.slice_bounds-rest-count
-slice_bounds-rest-count c = omega (arith, c.field_end-end.ensures, tag-whole (left c) (is-frame c))
+slice_bounds-rest-count c = omega (arith, c.field_end-end.ensures, tag-whole c.loop-rest.rest.now (is-frame (goal.at.slice_bounds-rest-count c).In-loop-rest))
 
 pub slice_bounds-rest-start : goal.slice_bounds-rest-start
-slice_bounds-rest-start c = omega (arith, c.field_end-end.ensures, tag-whole (left c) (is-frame c))
+slice_bounds-rest-start c = omega (arith, c.field_end-end.ensures, tag-whole c.loop-rest.rest.now (is-frame (goal.at.slice_bounds-rest-start c).In-loop-rest))
 
 pub slice_bounds-rest-end : goal.slice_bounds-rest-end
-slice_bounds-rest-end c = omega (arith, c.field_end-end.ensures, tag-whole (left c) (is-frame c))
+slice_bounds-rest-end c = omega (arith, c.field_end-end.ensures, tag-whole c.loop-rest.rest.now (is-frame (goal.at.slice_bounds-rest-end c).In-loop-rest))
 
 pub loop-rest-smaller : goal.loop-rest-smaller
-loop-rest-smaller c = rw (cut-behind (left c) c.field_end-end.result c.field_end-end.ensures) (behind-shorter (left c) (is-frame c))
+loop-rest-smaller c = rw (cut-behind c.loop-rest.rest.now c.field_end-end.result c.field_end-end.ensures) (behind-shorter c.loop-rest.rest.now (is-frame (goal.at.loop-rest-smaller c).In-loop-rest))
 
 pub loop-rest-preserved : goal.loop-rest-preserved
 loop-rest-preserved c =
     let call = c.store_frame in
     let l = c.loop-rest in
     let a = c.args in (
-      call.auto.1.0 ∙ l.invariant.0,
-      call.auto.1.1.0 ∙ l.invariant.1,
-      rw (cut-behind (left c) c.field_end-end.result c.field_end-end.ensures)
-          (frame-stored (length a.eeprom.now) (length a.settings.now) (left c) (is-frame c) _ c.content_of.ensures (memory l.eeprom l.settings) _
+      call.auto.eeprom ∙ l.invariant.0,
+      call.auto.settings ∙ l.invariant.1,
+      rw (cut-behind l.rest.now c.field_end-end.result c.field_end-end.ensures)
+          (frame-stored (length a.eeprom.now) (length a.settings.now) l.rest.now (is-frame (goal.at.loop-rest-preserved c).In-loop-rest) _ c.content_of.ensures (memory l.eeprom l.settings) _
           (rw (l.invariant.0, l.invariant.1) at call.ensures)
           ∙ l.invariant.2),
     )

@@ -11,7 +11,7 @@ pub loop-k-init : goal.loop-k-init
 loop-k-init c = (omega arith, (refl, rising_none _ _))
 
 pub put_block-requires : goal.put_block-requires
-put_block-requires c = ((omega arith, omega arith), simp (length-take, length-drop) (omega arith))
+put_block-requires c = record { k_in_bounds = (omega arith, omega arith); k_in_bounds_2 = simp (length-take, length-drop) (omega arith) }
 
 pub loop-k-smaller : goal.loop-k-smaller
 loop-k-smaller c = omega arith
