@@ -34,6 +34,8 @@ frames-octets l octets = upto-octets (length (drop 11 l)) (drop 11 l) (behind-oc
 -- ---- a frame that is taken names its write, which lies within
 pub each_all : (frames : List (List ℕ)) (ws : List Store) → EachNames frames ws → frames_names frames ≡ ws
 each_all [] [] h = refl
+each_all [] (w ∷ ws) h = elim h [ ]
+each_all (frame ∷ frames) [] h = elim h [ ]
 each_all (frame ∷ frames) (w ∷ ws) h = λ i. h.0 i ++ each_all frames ws h.1 i
 
 module _ (e s : ℕ) where

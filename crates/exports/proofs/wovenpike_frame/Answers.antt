@@ -4,4 +4,4 @@ use Rattle.exports.specs.Answer.{out_number}
 use Rattle.exports.proofs.wovenpike_frame.Goals as goal
 
 pub returns : goal.returns
-returns c = rw c.number_of_lem.ensures (ap out_number c.frame.ensures)
+returns c = rw c.number_of.ensures (ap out_number c.frame.ensures)
