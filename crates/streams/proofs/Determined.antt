@@ -1,6 +1,5 @@
 -- Each public function's contract fixes its answer and what it leaves.
 use Rattle.std.proofs.Common.{◌≡◌, ℕ, List}
-use Rattle.octets.specs.Outcome.{done}
 use Rattle.octets.specs.declared.Done.{Done}
 use Rattle.octets.proofs.Agree.{Fixes, agree}
 use Rattle.octets.proofs.Determined.{done-once}

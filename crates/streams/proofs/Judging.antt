@@ -1,5 +1,5 @@
 -- Laws of judging: what is left to judge after one field, and what one frame is judged by.
-use Rattle.std.proofs.Common.{◌≡◌, ℕ, suc, ◌+◌, ◌-◌, List, [], ◌∷◌, length, get_or, take, sym, refl, ap, ◌∙◌, zero-add, arith}
+use Rattle.std.proofs.Common.{◌≡◌, ℕ, ◌+◌, List, [], ◌∷◌, length, get_or, take, sym, refl, ap, ◌∙◌, zero-add, arith}
 use Rattle.octets.specs.Refusals.{wrong_checksum}
 use Rattle.octets.specs.Outcome.{Outcome, accepted, refused, on_accepted, and_then}
 use Rattle.octets.specs.Choice.{if_lt, if_eq}

@@ -7,7 +7,7 @@ use Rattle.octets.proofs.Parts.{part-rest}
 use Rattle.processor.specs.Memory.{Store, to_eeprom, to_settings}
 use Rattle.processor.specs.Change.{writes_in}
 use Rattle.processor.specs.declared.change.Change.{Change}
-use Rattle.streams.specs.Means.{memory_means, word_means, packet_means, in_packet}
+use Rattle.streams.specs.Means.{packet_means, in_packet}
 use Rattle.streams.specs.Inside.{or_nothing}
 
 module _ (p : List ℕ) where

@@ -1,8 +1,8 @@
 -- What stands in a sound save, and that its frames write what they mean.
-use Rattle.std.proofs.Common.{◌≡◌, ℕ, ◌+◌, Bool, true, false, List, [], ◌∷◌, length, drop, sym, refl, ap, ◌∙◌}
+use Rattle.std.proofs.Common.{◌≡◌, ℕ, Bool, true, false, List, [], ◌∷◌, length, drop, sym, refl, ◌∙◌}
 use Rattle.octets.specs.Outcome.{Outcome, accepted, refused, and_then}
-use Rattle.octets.specs.Refusals.{wrong_sizes, too_long}
-use Rattle.octets.specs.Choice.{pick, if_lt, if_eq}
+use Rattle.octets.specs.Refusals.{wrong_sizes}
+use Rattle.octets.specs.Choice.{pick}
 use Rattle.octets.proofs.Choosing.{was-same, was-above, refused-accepted}
 use Rattle.octets.proofs.Outcomes.{then-both, same-value, was-picked}
 use Rattle.processor.specs.Memory.{Store, too_large}

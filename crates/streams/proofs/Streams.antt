@@ -1,5 +1,5 @@
 -- Laws of reading a save's fields, one by one.
-use Rattle.std.proofs.Common.{◌≡◌, ℕ, zero, suc, ◌+◌, ◌-◌, ◌<◌, ◌≤◌, true, false, List, [], length, take, drop, sym, refl, ap, ◌∙◌, arith, length-drop, take_all}
+use Rattle.std.proofs.Common.{◌≡◌, ℕ, zero, suc, ◌+◌, ◌-◌, ◌<◌, ◌≤◌, List, [], length, take, drop, sym, refl, ap, ◌∙◌, arith, length-drop, take_all}
 use Rattle.octets.specs.Choice.{if_eq}
 use Rattle.octets.proofs.Choosing.{same, other, either_lt, either-eq}
 use Rattle.streams.specs.Stream.{length_of, content_of, behind, tag_of, Stream, stream, with_frame, stream_up_to, stream_of}

@@ -1,6 +1,6 @@
 // The stream of fields that a save is: read from the front, each frame in it a write, and judged up
 // to its first fault. (added)
-#![tactic(auto)]
+#![tactic(auto, using(octets::proofs::Choosing::tests))]
 
 pub mod judge;
 pub mod means;

@@ -15,6 +15,7 @@ pub enum Meant {
 }
 
 // e and s are the sizes of the memories.
+#[tactic(auto, using(octets::proofs::Choosing::tests), unfolding(crate::specs::Means::packet_means))]
 pub fn meaning_of(packet: &[u8], e: usize, s: usize) -> Meant
     ensures { meant result ≡ on_accepted (in_packet packet.now) (packet_means e s packet.now) }
 {

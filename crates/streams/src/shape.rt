@@ -19,6 +19,7 @@ pub enum Judged {
     Refused(u8),
 }
 
+#[tactic(auto, using(octets::proofs::Choosing::tests), unfolding(crate::specs::Stream::shape_of))]
 pub fn shape_of(save: &[u8]) -> Judged
     ensures { judged result ≡ shape_of save.now }
 {

@@ -26,6 +26,7 @@ pub fn fields_of(save: &[u8]) -> &[u8]
 }
 
 // The first field's tag.
+#[tactic(auto, using(octets::proofs::Choosing::tests), unfolding(crate::specs::Stream::tag_of))]
 pub fn tag_of(rest: &[u8]) -> u8
     ensures { result ≡ tag_of rest.now }
 {
@@ -38,6 +39,7 @@ pub fn tag_of(rest: &[u8]) -> u8
     number::byte(rest, 0)
 }
 
+#[tactic(auto, using(octets::proofs::Choosing::tests), unfolding(crate::specs::Stream::content_of))]
 pub fn content_of(rest: &[u8]) -> &[u8]
     ensures { result.now ≡ content_of rest.now }
 {
@@ -53,6 +55,7 @@ pub fn field_end(rest: &[u8]) -> usize
 }
 
 // Whether what stands behind so many frames is the end of a save.
+#[tactic(auto, using(octets::proofs::Choosing::tests), unfolding(crate::specs::Stream::end_of))]
 pub fn end_of(rest: &[u8], frames: usize) -> Done
     ensures { done result ≡ end_of frames rest.now }
 {

@@ -12,9 +12,6 @@ told c =
     let a = c.args in
     rw (← c.too_large.ensures, c.if-too_large.false, only-shape a.shape (fields_mean a.shape.eeprom a.shape.settings (drop 11 a.save.now)), ← c.fields_of.ensures, ← c.scan.ensures)
 
-pub returns-then-too_large : goal.returns-then-too_large
-returns-then-too_large c = rw (← c.too_large.ensures, c.if-too_large.true)
-
 pub returns-in-Done : goal.returns-in-Done
 returns-in-Done c = rw (told (goal.at.returns-in-Done c).After-scan, c.in-Done.is)
 

@@ -1,5 +1,5 @@
 -- The fields that are left are as sound as all of them, and the sum is that of the bytes gone over.
-use Rattle.std.proofs.Common.{◌≡◌, ℕ, ◌-◌, List, take, sym, refl, ap, ◌∙◌, arith}
+use Rattle.std.proofs.Common.{◌≡◌, take, sym, refl, ap, ◌∙◌, arith}
 use Rattle.octets.specs.Outcome.{accepted}
 use Rattle.octets.specs.Number.{at}
 use Rattle.packet.specs.Frame.{total, checksum_of}
@@ -31,19 +31,10 @@ pub bytes-init : goal.bytes-init
 unfolding total
 bytes-init c = (omega arith, refl)
 
-pub overflow_add-i : goal.overflow_add-i
-overflow_add-i c = omega arith
-
-pub bytes-smaller : goal.bytes-smaller
-bytes-smaller c = omega arith
-
 pub bytes-preserved : goal.bytes-preserved
 bytes-preserved c =
     let f = c.content_of-frame.result.now in
     (omega arith, omega (arith, total-turn f c.bytes.i (omega (arith, as_long f (received (goal.at.bytes-preserved c).In_default), c.byte-len.ensures)), c.byte-in-bytes.ensures))
-
-pub overflow_add-frames : goal.overflow_add-frames
-overflow_add-frames c = omega arith
 
 pub slice_bounds-rest-count : goal.slice_bounds-rest-count
 slice_bounds-rest-count c = omega (arith, c.field_end-end.ensures, tag-whole c.fields.rest.now (is-frame (goal.at.slice_bounds-rest-count c).Else-tag_of-ne-FRAME))
