@@ -8,7 +8,7 @@ use lib.ListN.{length, take, drop, length-append, length-take, length-drop, drop
 use lib.Seq.{take_at, drop_at, drop-drop, drop-cons, take-add, take_all, length-take-le}
 use Rattle.octets.specs.Over.{over, over_at}
 use Rattle.octets.specs.Number.{at}
-use Rattle.processor.specs.Memory.{Memory, memory, Store, put_at, store_one, store}
+use Rattle.processor.specs.Memory.{Memory, memory, put_at, store}
 use Rattle.octets.proofs.Overlay.{put-inside}
 use Rattle.processor.proofs.Stores.{store-append}
 use Rattle.saves.specs.Save.{blocks}

@@ -9,7 +9,7 @@ use lib.Dec.{lit<}
 use lib.ListN.{length, drop, length-append}
 use lib.Seq.{drop_at}
 use Rattle.octets.specs.Outcome.{accepted}
-use Rattle.octets.specs.Number.{at, big_at, big_bytes}
+use Rattle.octets.specs.Number.{big_at, big_bytes}
 use Rattle.octets.proofs.Choosing.{above, same}
 use Rattle.octets.proofs.InBytes.{big-behind, big-back}
 use Rattle.processor.specs.Memory.{Memory, too_large}

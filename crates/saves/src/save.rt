@@ -41,6 +41,7 @@ fn save_sized(eeprom: &[u8], settings: &[u32], out: &mut [u8]) -> Written
 }
 
 // A field's tag and the length of its content.
+#[tactic(auto, unfolding(octets::specs::Number::big_bytes))]
 fn head(tag: u8, len: u16) -> [u8; 3]
     ensures { result ≡ tag ∷ big_bytes 2 len }
 {
@@ -131,6 +132,7 @@ fn put_setting(k: usize, settings: &[u32], out: &mut [u8])
 }
 
 // The packet of a Write of a word, to an address of three bytes with the extra bit set.
+#[tactic(auto, unfolding(octets::specs::Number::big_bytes, octets::specs::Number::little_bytes))]
 fn word_packet(addr: u16, word: u32) -> [u8; 8]
     ensures { result ≡ 0x13 ∷ 0x80 ∷ (big_bytes 2 addr ++ little_bytes 4 word) }
 {

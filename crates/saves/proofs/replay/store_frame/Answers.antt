@@ -1,7 +1,6 @@
 -- What it means, if anything.
 use lib.ListN.{length}
-use Rattle.streams.specs.Means.{packet_means}
-use Rattle.streams.proofs.Meaning.{change-writes, none-writes}
+use Rattle.streams.proofs.Meaning.{change-writes}
 use Rattle.saves.proofs.replay.store_frame.Goals as goal
 
 pub returns-in-Is : goal.returns-in-Is
@@ -9,10 +8,3 @@ returns-in-Is c =
     let a = c.args in
     let means = rw c.in-Is.is at c.meaning_of.ensures in
     rw (← c.packet_in-packet.ensures, ← change-writes _ (length a.eeprom.now) (length a.settings.now) _ means) c.store.ensures
-
-pub returns-in-Refused : goal.returns-in-Refused
-returns-in-Refused c =
-    let a = c.args in
-    let p = c.packet_in-packet.result.now in
-    let means = rw c.in-Refused.is at c.meaning_of.ensures in
-    rw (← c.packet_in-packet.ensures, ← none-writes p (packet_means (length a.eeprom.now) (length a.settings.now) p) means)

@@ -1,7 +1,5 @@
 -- What is left to store, stored, is what all of it is.
-use Prim.Native.Nat.{ℕ, ◌-◌}
-use mathlib.Core.Path.{◌≡◌, refl, sym, ◌∙◌}
-use mathlib.Core.List.{List}
+use mathlib.Core.Path.{◌≡◌, sym, ◌∙◌}
 use native.Mathlib.Omega.{arith}
 use lib.ListN.{length}
 use Rattle.processor.specs.Memory.{memory}
@@ -14,9 +12,6 @@ use Rattle.saves.proofs.replay.store_frames.Goals.{In-loop-rest}
 -- the frame at the front of what is left
 is-frame : (c : In-loop-rest) → tag_of c.loop-rest.rest.now ≡ 0x10
 is-frame c = sym c.tag_of.ensures ∙ c.loop-rest-test.true
-
-pub loop-rest-init : goal.loop-rest-init
-loop-rest-init c = (refl, refl, refl)
 
 pub slice_bounds-rest-count : goal.slice_bounds-rest-count
 slice_bounds-rest-count c = omega (arith, c.field_end-end.ensures, tag-whole c.loop-rest.rest.now (is-frame (goal.at.slice_bounds-rest-count c).In-loop-rest))
@@ -42,12 +37,6 @@ loop-rest-preserved c =
           (rw (l.invariant.0, l.invariant.1) at call.ensures)
           ∙ l.invariant.2),
     )
-
-pub shape_of-eeprom : goal.shape_of-eeprom
-shape_of-eeprom c = c.loop-rest.invariant.0
-
-pub shape_of-settings : goal.shape_of-settings
-shape_of-settings c = c.loop-rest.invariant.1
 
 pub returns : goal.returns
 returns c = sym (none-stored _ _ c.loop-rest.rest.now (λ h. c.loop-rest-test.false (c.tag_of.ensures ∙ h)) _) ∙ c.loop-rest.invariant.2

@@ -1,20 +1,14 @@
 -- After k turns the first k fields stand over the output.
-use Prim.Native.Nat.{◌+◌, ◌-◌, ◌*◌, ◌≤◌}
+use Prim.Native.Nat.{◌+◌, ◌*◌, ◌≤◌}
 use mathlib.Core.Path.{◌≡◌, refl}
 use native.Mathlib.Omega.{arith}
-use lib.ListN.{length, length-take, length-drop}
+use lib.ListN.{length}
 use Rattle.saves.specs.Save.{memory_packet, rising}
 use Rattle.saves.proofs.Saved.{length-blocks, length-memory-packet, rising_none, rising-next}
 use Rattle.saves.proofs.save.put_blocks.Goals as goal
 
 pub loop-k-init : goal.loop-k-init
 loop-k-init c = (omega arith, (refl, rising_none _ _))
-
-pub put_block-requires : goal.put_block-requires
-put_block-requires c = record { k_in_bounds = (omega arith, omega arith); k_in_bounds_2 = simp (length-take, length-drop) (omega arith) }
-
-pub loop-k-smaller : goal.loop-k-smaller
-loop-k-smaller c = omega arith
 
 pub loop-k-preserved : goal.loop-k-preserved
 loop-k-preserved c =

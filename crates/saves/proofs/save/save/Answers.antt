@@ -3,11 +3,5 @@ use mathlib.Core.Path.{sym, ◌∙◌}
 use Rattle.processor.proofs.Stores.{right-sizes}
 use Rattle.saves.proofs.save.save.Goals as goal
 
-pub returns-then-too_large : goal.returns-then-too_large
-returns-then-too_large c = rw (← c.too_large.ensures, c.if-too_large.true)
-
 pub save_sized-requires : goal.save_sized-requires
 save_sized-requires c = right-sizes _ _ (sym c.too_large.ensures ∙ c.if-too_large.false)
-
-pub returns : goal.returns
-returns c = rw (← c.too_large.ensures, c.if-too_large.false) c.save_sized.ensures
