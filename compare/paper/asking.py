@@ -85,7 +85,7 @@ class Bench:
 
 def port(name, requests):
     """The port's answers, of which there are none where the program ends badly."""
-    program = os.environ.get("BENCH", "compare/tools/start target/bin/bench").split()
+    program = os.environ.get("BENCH", "compare/tools/start bench").split()
     run = subprocess.run(program, input="".join(request + "\n" for request in requests), stdout=subprocess.PIPE, text=True)
     if run.returncode:
         sys.exit(f"{name}: bench ended with {run.returncode}")
@@ -94,7 +94,7 @@ def port(name, requests):
 
 def ran(program, words, given):
     """What a program of the port writes, of which nothing is taken where it ends badly."""
-    command = os.environ.get(program.upper(), f"compare/tools/start target/bin/{program}").split()
+    command = os.environ.get(program.upper(), f"compare/tools/start {program}").split()
     run = subprocess.run([*command, *words], input=given, stdout=subprocess.PIPE)
     return run.stdout if run.returncode == 0 else None
 
