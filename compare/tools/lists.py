@@ -30,8 +30,8 @@ def files_under(folder, ending):
 SHARED = "programs"
 
 def crates():
-    """Each crate of crates.txt with those that it needs."""
-    rows = re.findall(r"(?m)^([a-z_0-9]+):(.*)$", text_of("crates.txt"))
+    """Each crate of crates.txt with those that it needs; what stands between its name and the colon says how it is built."""
+    rows = re.findall(r"(?m)^([a-z_0-9]+)(?: [^:#\n]+)?:([^#\n]*)", text_of("crates.txt"))
     return {name: needs.split() for name, needs in rows}
 
 
@@ -110,11 +110,21 @@ def functions(crate):
 CALL = re.compile(r"(?:(\w+)::|(\.))?\b([a-z_0-9]+)\(")
 
 
+def of_the_kit():
+    """The names by which the code calls what is not the crates': the libraries of the kit, and what it takes from std."""
+    named = {need for needs in crates().values() for need in needs} | {"std", "str"}
+    for path in files_under(CRATES, ".rt"):
+        with open(path, encoding="utf-8") as f:
+            for taken in re.findall(r"(?m)^use std::([^;]*);", f.read()):
+                named.update(re.findall(r"\w+", taken))
+    return named - set(crates())
+
+
 def reached():
     """Crate and name of each function that a program can come to, by the names in the bodies: `Type::f(` and `module::f(` are that type's or
     module's, or any where it is another name for them, `.f(` any type's, and `f(` any that is none's."""
     everything = [function for crate in crates() for function in functions(crate)]
-    kit = {need for needs in crates().values() for need in needs} - set(crates())
+    kit = of_the_kit()
     by_name = {}
     for function in everything:
         by_name.setdefault(function.short, []).append(function)
@@ -175,20 +185,22 @@ def wrong_count(crate):
 
 
 def changed(text, function, old, new):
-    """The text with the change made in the function, or None where function or old text is not there, or not once. A
-    function of a type may be named with it, `Type::function`, where two types of the file have one of that name."""
+    """The text with the change made in the function, or None where function or old text is not there, or not once. The old text
+    is looked for in the body, and in the contract only where the body does not have it. A function of a type may be named with
+    it, `Type::function`, where two types of the file have one of that name."""
     owner, _, name = function.rpartition("::")
     first = re.search(r"(?m)^impl " + owner + r" \{$", text).start() if owner else 0
     last = text.index("\n}\n", first) if owner else len(text)
     starts = [m for m in re.finditer(r"(?m)^([ \t]*)(pub |pub\(crate\) )?(extern \"C\" )?fn " + name + r"\b", text) if first <= m.start() < last]
     if len(starts) != 1:
         return None
-    start = starts[0]
-    end = re.compile(r"(?m)^" + start.group(1) + r"}$").search(text, start.end())
-    body = text[start.start():end.end()]
-    if body.count(old) != 1:
+    indent, start = starts[0].group(1), starts[0].start()
+    end = re.compile(r"(?m)^" + indent + r"}$").search(text, start).end()
+    body = start + len(head_of(text[start:end].split("\n"), 0, indent))
+    begin, stop = (body, end) if old in text[body:end] else (start, body)
+    if text.count(old, begin, stop) != 1:
         return None
-    return text[:start.start()] + body.replace(old, new) + text[end.end():]
+    return text[:begin] + text[begin:stop].replace(old, new) + text[stop:]
 
 
 # ---- must-fail edits
