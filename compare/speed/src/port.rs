@@ -1,4 +1,4 @@
-//! The port, linked in (`rt staticlib exports`): as it stands, and where the run was given a commit, as it was there.
+//! The port, linked in (compare/tools/archive): as it stands, and where the run was given a commit, as it was there.
 use crate::side::{Out, Side};
 
 macro_rules! port {
