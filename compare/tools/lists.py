@@ -17,9 +17,20 @@ def text_of(*parts):
         return f.read()
 
 
+# what is built or kept, and is no file of the repository
+BUILT = {".git", "target", "out", "__pycache__"}
+
+
+def walked(folder):
+    """What stands below a folder, as os.walk has it, but for what is built."""
+    for where, folders, names in os.walk(folder):
+        folders[:] = sorted(set(folders) - BUILT)
+        yield where, folders, sorted(names)
+
+
 def files_under(folder, ending):
-    for where, _, names in sorted(os.walk(folder)):
-        for name in sorted(names):
+    for where, _, names in walked(folder):
+        for name in names:
             if name.endswith(ending):
                 yield os.path.join(where, name)
 
