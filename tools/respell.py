@@ -4,9 +4,10 @@
 usage: tools/respell.py        at the top of the repository, once, right behind /opt/rattle/port/port.py
 
 It takes each name that specs/ or proofs/ defines and that has a capital behind a small letter or a digit
-(`ifLt`, `roundTo-exact`), and writes it in snake case wherever it stands: in specs/ and proofs/, in the clauses and
-`ghost use` lines of src/, in must-fail edits, and in the pages. Functions of src/, exported C names, strings, inputs and
-outputs keep their names. A lemma that would fall together with a definition gets `_lem`, as std writes it.
+(`ifLt`, `roundTo-exact`), and writes it in snake case wherever it stands: in specs/ and proofs/, comments too, in the clauses
+and `ghost use` lines of src/, in must-fail edits, and between backticks in the pages. Functions of src/, exported C names,
+strings, inputs and outputs keep their names. The lemmas that would fall together with a definition stand in a table below and
+get `_lem`, as std writes it. A second run is refused: by then a definition has what was a lemma's name.
 """
 import os
 import re
@@ -89,9 +90,9 @@ def main():
     root = os.getcwd()
     if not os.path.isdir(os.path.join(root, "crates")):
         sys.exit(__doc__)
+    if any(re.search(WORD % new, read(path)) for path in files(root, ["crates"], ".antt") for new in LEMMAS.values()):
+        sys.exit("respell: this repository is respelled already")
     names = defined(root)
-    if not names:
-        sys.exit("respell: no name is left to respell")
     turn = turner({**names, **MENDED})
     for path in files(root, ["crates"], ".antt"):
         old = text = read(path)

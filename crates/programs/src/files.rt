@@ -3,7 +3,7 @@
 use crate::reads::read_full;
 use octets::Place;
 use std::fs::OpenFile;
-use std::io::{ErrorKind, Write};
+use std::io::{ErrorKind, Read, Write};
 use std::rt::Files;
 use std::{fs, io};
 
@@ -35,10 +35,15 @@ pub fn read_file(files: &impl Files, name: &[u8], bytes: &mut [u8]) -> Came {
     let Ok(mut file) = fs::open(files, path) else {
         return Came::Unopened;
     };
-    match read_full(&mut file, bytes) {
-        Ok(n) if n < bytes.len() => Came::Bytes(n),
-        Ok(_) => Came::Long,
+    let Ok(n) = read_full(&mut file, bytes) else {
+        return Came::Unread;
+    };
+    // a read that fails after the last one tells a file that cannot be read from one that has ended
+    let mut next = [0u8; 1];
+    match file.read(&mut next) {
         Err(_) => Came::Unread,
+        Ok(_) if n < bytes.len() => Came::Bytes(n),
+        Ok(_) => Came::Long,
     }
 }
 

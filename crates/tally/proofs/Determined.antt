@@ -38,8 +38,7 @@ count-fixed κs args a b x y p q = agree p q
 pub receive-counted-fixed : Fixes (Written × Memory × List ℕ × Tally) receive-counted.Post (λ κs answer left. (answer.answer, memory left.1.1.1.0.now left.1.1.1.1.0.now, left.1.1.1.1.1.0.now, answer.tally))
 receive-counted-fixed κs args a b x y p q = with-tally (λ w. after args.0 (written w)) (three written written_once (agree p.0 q.0)) p.1 q.1
 
--- A function that is lent a struct has no `Reads`, since the borrow checker does not cover it: so its contract is written
--- here once more, and `..-says` that it is that one.
+-- What `receive_lent` promises, written once more; `..-says` says that it is that.
 abbrev pub ReceiveLent : (κs : Lfts 5) → Args receive-lent.signature κs → Res receive-lent.signature κs → AtExit receive-lent.ended κs → Type 0
 ReceiveLent κs args answer left =
     ((written answer, memory left.1.1.1.0.now left.1.1.1.1.0.now, left.1.1.1.1.1.0.now) ≡ received_into args.1.0 args.1.1.0.now (memory args.1.1.1.0.now args.1.1.1.1.0.now) args.1.1.1.1.1.0.now)
