@@ -1,7 +1,7 @@
 #!/usr/bin/env python3
 """Respells the repository's own definitions and lemmas: words in snake case, types in camel case.
 
-usage: tools/respell.py        at the top of the repository, once, right behind /opt/rattle/port/port.py
+usage: tools/respell.py        at the top of the repository, once, right behind the kit's port/port.py
 
 It takes each name that specs/ or proofs/ defines and that has a capital behind a small letter or a digit
 (`ifLt`, `roundTo-exact`), and writes it in snake case wherever it stands: in specs/ and proofs/, comments too, in the clauses
