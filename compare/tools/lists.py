@@ -9,7 +9,8 @@ TOP = os.path.dirname(os.path.dirname(os.path.dirname(os.path.abspath(__file__))
 WRONG = os.path.join(TOP, "compare", "tools", "wrong")
 CRATES = os.path.join(TOP, "crates")
 FN = re.compile(r'^(\s*)(pub )?(?:pub\(crate\) )?(?:extern "C" )?fn ([a-z_0-9]+)')
-FAILS = "Refused"
+# the type of a refusal, and the type of the paper's number of it
+REFUSAL, NUMBER = "Refusal", "u8"
 
 
 def text_of(*parts):
@@ -64,9 +65,9 @@ def is_part(crate):
 class Function:
     """A function of a crate: `name` as docs/CONTRACTS.md has it, `Type::name`, `module::name` or `name`."""
 
-    def __init__(self, crate, module, owner, short, public, answer, body=""):
+    def __init__(self, crate, module, owner, short, public, method, answer, body=""):
         self.crate, self.module, self.owner, self.short = crate, module, owner, short
-        self.public, self.answer, self.body = public, answer, body
+        self.public, self.method, self.answer, self.body = public, method, answer, body
         self.name = f"{owner or module}::{short}" if owner or module else short
 
     def spellings(self):
@@ -104,21 +105,27 @@ def functions(crate):
         open_to_all = os.path.basename(root) == "lib.rt" and (not module or module.split("::")[0] in shown)
         with open(path, encoding="utf-8") as f:
             lines = f.read().split("\n")
-        owner = None
+        owner, of_a_trait = None, False
         for i, line in enumerate(lines):
-            block = re.match(r"impl (?:[A-Za-z]+ for )?([A-Za-z0-9]+)", line)
-            owner = block.group(1) if block else None if line == "}" else owner
+            block = re.match(r"impl(?:<.*?>)? (.+ for )?\W*(\w+)", line)
+            if block:
+                owner, of_a_trait = block.group(2), bool(block.group(1))
+            elif line == "}":
+                owner, of_a_trait = None, False
             m = FN.match(line)
             if m:
-                said = re.search(r"\) -> ([^\n{]+)", head_of(lines, i, m.group(1)))
-                answer = said.group(1).strip() if said else ""
+                head = head_of(lines, i, m.group(1))
+                said = re.findall(r"\) -> ([^\n{]+)", head)
+                answer = said[-1].strip() if said else ""
                 inside = owner if m.group(1) else None
                 end = next((j for j in range(i, len(lines)) if lines[j] == m.group(1) + "}"), i)
                 body = "\n".join(lines[i + 1:end])
-                yield Function(crate, module, inside, m.group(3), bool(m.group(2)) and open_to_all, answer, body)
+                method = re.search(r"\bfn \w+(?:<[^(]*>)?\(\s*&?(?:mut )?self\b", head) is not None
+                public = (bool(m.group(2)) or of_a_trait) and open_to_all
+                yield Function(crate, module, inside, m.group(3), public, method, answer, body)
 
 
-CALL = re.compile(r"(?:(\w+)::|(\.))?\b([a-z_0-9]+)\(")
+CALL = re.compile(r"(?:(\w+)::|(\.))?\b([a-z_0-9]+)(?:::<[^()]*>)?\(")
 
 
 def of_the_kit():
@@ -133,7 +140,7 @@ def of_the_kit():
 
 def reached():
     """Crate and name of each function that a program can come to, by the names in the bodies: `Type::f(` and `module::f(` are that type's or
-    module's, or any where it is another name for them, `.f(` any type's, and `f(` any that is none's."""
+    module's, or any where it is another name for them, `.f(` any method, and `f(` any that is no type's."""
     everything = [function for crate in crates() for function in functions(crate)]
     kit = of_the_kit()
     by_name = {}
@@ -151,23 +158,42 @@ def reached():
                 continue
             if before:
                 waiting += [other for other in named if before in (other.owner, other.module.split("::")[-1], other.crate)] or named
+            elif dot:
+                waiting += [other for other in named if other.method]
             else:
-                waiting += [other for other in named if bool(other.owner) == bool(dot)]
+                waiting += [other for other in named if not other.owner]
     return found
 
 
 def refusing_types():
-    """The enums of the crates that carry a refusal, and the structs that hold one of them."""
-    enums, structs = set(), {}
+    """The type of a refusal, and the types of the crates that hold one, however deep, or that one becomes by `?`: enums, structs and aliases."""
+    held, found = {}, {REFUSAL}
     for path in files_under(CRATES, ".rt"):
         with open(path, encoding="utf-8") as f:
-            text = f.read()
-        for kind, name, body in re.findall(r"(?m)^(?:pub )?(enum|struct) (\w+) \{\n(.*?)^\}", text, re.S | re.M):
-            if kind == "enum" and re.search(r"(?m)^    " + FAILS + r"\(u8\)", body):
-                enums.add(name)
-            elif kind == "struct":
-                structs[name] = set(re.findall(r": (\w+),", body))
-    return enums | {name for name, held in structs.items() if held & enums}
+            text = re.sub(r"//.*", "", f.read())
+        found.update(re.findall(r"(?m)^impl From<(?:\w+::)*" + REFUSAL + r"> for (\w+)", text))
+        # of each line of a body what stands behind the name of its field or variant
+        for name, body in re.findall(r"(?ms)^(?:pub(?:\(crate\))? )?(?:enum|struct) (\w+)(?:<[^\n{]*>)? \{\n(.*?)^\}", text):
+            held.setdefault(name, set()).update(re.findall(r"\w+", re.sub(r"(?m)^\s+(?:pub(?:\(crate\))? )?\w+", "", body)))
+        for name, body in re.findall(r"(?m)^(?:pub(?:\(crate\))? )?(?:type|struct) (\w+)(?:<[^\n=(]*>)?(?: = |\()([^;]*);", text):
+            held.setdefault(name, set()).update(re.findall(r"\w+", body))
+    found.discard(NUMBER)
+    while more := {name for name, parts in held.items() if parts & found} - found:
+        found |= more
+    return found
+
+
+def can_refuse(function, types):
+    """Whether an answer can be a refusal: a type stands in it that holds one, or its error is the bare number; or the function makes
+    a refusal its number, by itself or by a function of its crate that it calls."""
+    said = set(re.findall(r"\w+", function.answer))
+    if said & types or "Self" in said and function.owner in types:
+        return True
+    if re.search(r"\bResult<.*, " + NUMBER + ">", function.answer):
+        return True
+    made = re.compile(r"\b" + NUMBER + r"::from\b|\.into\(\)")
+    others = [other.short for other in functions(function.crate) if made.search(other.body)]
+    return bool(made.search(function.body)) or any(re.search(rf"\b{other}\(", function.body) for other in others)
 
 
 # ---- wrong programs
@@ -200,8 +226,10 @@ def changed(text, function, old, new):
     is looked for in the body, and in the contract only where the body does not have it. A function of a type may be named with
     it, `Type::function`, where two types of the file have one of that name."""
     owner, _, name = function.rpartition("::")
-    first = re.search(r"(?m)^impl " + owner + r" \{$", text).start() if owner else 0
-    last = text.index("\n}\n", first) if owner else len(text)
+    block = re.search(r"(?m)^impl(?:<.*?>)? (?:\S+ for )?" + owner + r"(?:<.*>)? \{$", text) if owner else None
+    if owner and not block:
+        return None
+    first, last = (block.start(), text.index("\n}\n", block.start())) if block else (0, len(text))
     starts = [m for m in re.finditer(r"(?m)^([ \t]*)(pub |pub\(crate\) )?(extern \"C\" )?fn " + name + r"\b", text) if first <= m.start() < last]
     if len(starts) != 1:
         return None

@@ -1,15 +1,13 @@
 // Lines in, answers out, each at once.
-ghost use Rattle.std.specs.Prelude.{◌+◌, ◌≤◌, length, ◌≡◌, IfOk};
+ghost use Rattle.std.specs.Prelude.{◌≡◌, ◌+◌, ◌<◌, ◌≤◌, length, IfOk};
 
-use crate::held;
+use crate::held::Held;
 use crate::request::answer;
 use std::io;
 use std::io::Read;
 use std::rt::Files;
 
-// Far more turns than any input takes, so that the loop has an end.
-const TURNS: u64 = 0xffff_ffff_ffff_ffff;
-
+// Tried without it and slower: where `main` lends an array of a million elements as a slice, its check takes over a minute.
 pub fn run<R: Files + Print>(
     rt: &R,
     stdin: &mut impl Read,
@@ -31,33 +29,28 @@ fn serve<R: Files + Print>(
     settings: &mut [u32],
     kept: &mut [u8],
 ) -> io::Result<()> {
-    let mut held = held::first();
+    let mut held = Held::first();
     let mut lines = Lines {
         used: 0,
         have: 0,
         long: false,
         ended: false,
     };
-    let mut turns = TURNS;
-    while 0 < turns {
-        turns -= 1;
-        let used = lines.used;
-        let have = lines.have;
-        let end = used + text::until(&input[used..have], b'\n');
-        if end == have && !lines.ended {
+    // far more turns than any input takes, so that the loop has an end
+    for _ in 0..u64::MAX {
+        let rest = &input[lines.used..lines.have];
+        if let Some(len) = rest.iter().position(|byte| *byte == b'\n') {
+            let line = &rest[..len];
+            answer(rt, line, lines.long, &mut held, eeprom, settings, kept)?;
+            lines = behind_line(lines, len);
+        } else if !lines.ended {
             lines = read_more(stdin, input, lines)?;
-            continue;
-        }
-        if used == have && !lines.long {
+        } else {
+            if lines.long || !rest.is_empty() {
+                answer(rt, rest, lines.long, &mut held, eeprom, settings, kept)?;
+            }
             return Ok(());
         }
-        let line = &input[used..end];
-        let next = answer(rt, line, lines.long, held, eeprom, settings, kept)?;
-        held = next;
-        if lines.ended {
-            return Ok(());
-        }
-        lines = behind_line(lines, end);
     }
     Ok(())
 }
@@ -73,16 +66,16 @@ struct Lines {
 }
 
 // Reads behind the line that is not ended yet, which goes to the front; where it fills the input, now or
-// before, it is too long.
+// before, it is too long, and nothing of it is kept.
 fn read_more(stdin: &mut impl Read, input: &mut [u8], lines: Lines) -> io::Result<Lines>
     requires { (lines.used ≤ lines.have) × (lines.have ≤ length input.old) }
     ensures { IfOk result (λ next. (next.used ≤ next.have) × (next.have ≤ length input.old)) }
 {
-    let used = lines.used;
-    let have = lines.have;
+    let Lines { used, have, .. } = lines;
     let long = used == 0 && (lines.long || have == input.len());
-    let kept = keep(input, used, have, long);
-    let came = read_behind(stdin, input, kept)?;
+    let kept = if long { 0 } else { have - used };
+    input.copy_within(have - kept..have, 0);
+    let came = stdin.read(&mut input[kept..])?;
     Ok(Lines {
         used: 0,
         have: kept + came,
@@ -91,40 +84,14 @@ fn read_more(stdin: &mut impl Read, input: &mut [u8], lines: Lines) -> io::Resul
     })
 }
 
-// Behind the line that ends there.
-fn behind_line(lines: Lines, end: usize) -> Lines
+// Behind a line of so many bytes and its line end.
+fn behind_line(lines: Lines, len: usize) -> Lines
+    requires { lines.used + len < lines.have }
     ensures { (result.used ≤ result.have) × (result.have ≡ lines.have) }
 {
-    let have = lines.have;
-    let used = if end < have { end + 1 } else { have };
     Lines {
-        used,
+        used: lines.used + len + 1,
         long: false,
         ..lines
     }
-}
-
-// Reads behind the first `have` bytes, and answers how many bytes came.
-fn read_behind(stdin: &mut impl Read, input: &mut [u8], have: usize) -> io::Result<usize>
-    requires { have ≤ length input.old }
-    ensures { IfOk result (λ n. have + n ≤ length input.old) }
-{
-    stdin.read(&mut input[have..])
-}
-
-// Moves what is not used yet to the front, and answers how much that is: of a line that is too long
-// nothing is kept.
-fn keep(input: &mut [u8], used: usize, have: usize, long: bool) -> usize
-    requires { (used ≤ have) × (have ≤ length input.old) }
-    ensures { result ≤ length input.old }
-{
-    if long {
-        return 0;
-    }
-    let mut i = 0;
-    while i < have - used {
-        input[i] = input[used + i];
-        i += 1;
-    }
-    have - used
 }

@@ -8,7 +8,7 @@ use bench_words::read::*;
 use bench_words::table::*;
 use bench_words::*;
 use octets::number::byte as byte_at;
-use octets::{Place, Written};
+use octets::{Place, Refusal};
 
 // More words than any answer has but for the values behind it.
 const MOST_WORDS: usize = 64;
@@ -41,10 +41,7 @@ pub fn put(
 pub fn put_end(out: &mut [u8], end: usize) -> usize
     ensures { result ≤ length out.old }
 {
-    if end == 0 {
-        return 0;
-    }
-    if out.len() < end {
+    if end == 0 || out.len() < end {
         return 0;
     }
     out[end - 1] = b'\n';
@@ -60,56 +57,60 @@ fn put_words(
     out: &mut [u8],
     at: usize,
 ) -> usize {
-    let mut putting = begun(table, answer[FORM] as usize, own, at);
-    let mut turns = 0;
-    while turns < MOST_WORDS {
-        putting = put_next(table, putting, answer, bytes, lent, out);
-        turns += 1;
+    let mut putting = begun(table, answer.form, own, at);
+    for _ in 0..MOST_WORDS {
+        let Some(walk) = putting.walk.next(table) else {
+            break;
+        };
+        putting.walk = walk;
+        putting = put_next(table, putting, answer.numbers, bytes, lent, out);
     }
     putting.end
 }
 
-fn begun(table: &[u8], form: usize, own: usize, end: usize) -> Putting {
-    let row = find(table, b'z', form, b"");
-    let start = if form == 0 { own } else { row.words };
-    let walk = walk_from(start);
-    Putting {
-        walk,
-        count: 0,
-        end,
-    }
+fn begun(table: &[u8], form: Form, own: usize, end: usize) -> Putting {
+    let words = match form {
+        Form::OfRequest => own,
+        _ => numbered(table, b'z', form as usize).map_or(0, |row| row.words),
+    };
+    put_to(walk_from(words), 0, end)
 }
 
-// Puts one word more; once all are put, the table has no more.
+// Puts the word that the walk has come to.
 fn put_next(
     table: &[u8],
     putting: Putting,
-    answer: Answer,
+    numbers: Numbers,
     bytes: &[u8],
     lent: &[u8],
     out: &mut [u8],
 ) -> Putting {
-    let before = putting.walk;
-    let walk = before.next(table);
-    let i = putting.count;
-    let end = putting.end;
-    let word = walk.word;
-    if word.len == 0 {
+    let Putting { walk, count, end } = putting;
+    if 30 < count {
         return putting;
     }
-    if 30 < i {
-        return putting;
+    if 1 < walk.word.len {
+        return put_to(walk, count, say(octets::part(table, walk.word), out, end));
     }
-    if 1 < word.len {
-        return put_to(walk, i, say(octets::part(table, word), out, end));
-    }
-    let a = answer[i];
-    let letter = byte_at(table, word.start);
+    let n = numbers[count];
+    let letter = byte_at(table, walk.word.start);
     match letter {
-        b'A'..=b'Z' => put_name(table, walk, letter, a, i + 1, out, end),
-        b';' => put_to(end_at(walk, a), i, end),
-        b'p' => put_to(walk, i + 2, part(place(a, answer[i + 1]), bytes, out, end)),
-        _ => put_to(walk, i + 1, put_word(table, letter, a, lent, out, end)),
+        b'A'..=b'Z' => put_name(
+            table,
+            walk,
+            numbered(table, letter, n as usize),
+            count + 1,
+            out,
+            end,
+        ),
+        b';' if n == 0 => put_to(walk_from(0), count, end),
+        b';' => putting,
+        b'p' => put_to(
+            walk,
+            count + 2,
+            part(place(n, numbers[count + 1]), bytes, out, end),
+        ),
+        _ => put_to(walk, count + 1, put_word(table, letter, n, lent, out, end)),
     }
 }
 
@@ -117,30 +118,22 @@ fn put_to(walk: Walk, count: usize, end: usize) -> Putting {
     Putting { walk, count, end }
 }
 
-fn end_at(walk: Walk, number: u32) -> Walk {
-    if number == 0 {
-        return walk_from(0);
-    }
-    walk
-}
-
 // Puts a name and goes into its row, or puts that there is none.
 fn put_name(
     table: &[u8],
     walk: Walk,
-    list: u8,
-    number: u32,
+    row: Option<Row>,
     count: usize,
     out: &mut [u8],
     end: usize,
 ) -> Putting {
-    let row = find(table, list, number as usize, b"");
-    if row.number == 0 {
-        return put_to(walk, count, say(b"none", out, end));
+    match row {
+        Some(row) => {
+            let end = say(octets::part(table, row.name), out, end);
+            put_to(walk.into_row(row.words), count, end)
+        }
+        None => put_to(walk, count, say(b"none", out, end)),
     }
-    let name = row.name;
-    let end = say(octets::part(table, name), out, end);
-    put_to(walk.into_row(row.words), count, end)
 }
 
 // Puts one word by its letter and the next number.
@@ -154,8 +147,8 @@ fn put_word(table: &[u8], letter: u8, n: u32, lent: &[u8], out: &mut [u8], at: u
         b'q' => words(n, lent, out, at),
         b'o' | b'f' => known(letter, n, out, at),
         b':' => colon(decimal(n, out, at), out),
-        b'e' => expected(table, byte(n), out, at),
-        b'i' => meaning(table, n as usize, out, at),
+        b'e' => text_of(table, named(table, b'e', &[byte(n)]), out, at),
+        b'i' => text_of(table, numbered(table, b'i', n as usize), out, at),
         b'v' => help(table, n as usize, out, at),
         _ => decimal(n, out, at),
     }
@@ -167,14 +160,13 @@ fn part(place: Place, bytes: &[u8], out: &mut [u8], at: usize) -> usize {
     pairs(octets::part(bytes, place), out, end)
 }
 
+// What counts from 1, and is not known at 0.
 fn known(letter: u8, n: u32, out: &mut [u8], at: usize) -> usize {
-    if n == 0 {
-        return say(b"none", out, at);
+    match n.checked_sub(1) {
+        None => say(b"none", out, at),
+        Some(n) if letter == b'f' => say(&text::hex8(n), out, at),
+        Some(n) => decimal(n, out, at),
     }
-    if letter == b'f' {
-        return say(&text::hex8(n - 1), out, at);
-    }
-    decimal(n - 1, out, at)
 }
 
 // A colon in place of the last space.
@@ -185,19 +177,12 @@ fn colon(end: usize, out: &mut [u8]) -> usize {
     say(b":", out, end - 1)
 }
 
-// What a word of this letter is.
-fn expected(table: &[u8], letter: u8, out: &mut [u8], at: usize) -> usize {
-    let row = find(table, b'e', 0, &[letter]);
-    say(text_at(table, row.words), out, at)
-}
-
-// What a refusal of this number means.
-fn meaning(table: &[u8], number: usize, out: &mut [u8], at: usize) -> usize {
-    let row = find(table, b'i', number, b"");
-    if row.number == 0 {
-        return say(b"none", out, at);
+// The text of a row, what is expected of a word or what a refusal means.
+fn text_of(table: &[u8], row: Option<Row>, out: &mut [u8], at: usize) -> usize {
+    match row {
+        Some(row) => say(text_at(table, row.words), out, at),
+        None => say(b"none", out, at),
     }
-    say(text_at(table, row.words), out, at)
 }
 
 // A verb and its words, and for 0 all verbs.
@@ -206,55 +191,51 @@ fn help(table: &[u8], verb: usize, out: &mut [u8], at: usize) -> usize {
         let end = verbs(table, b'a', out, at);
         return verbs(table, b'd', out, end);
     }
-    if verb < DEVICE_VERBS {
-        return letters(table, find(table, b'a', verb, b""), out, at);
-    }
-    letters(table, find(table, b'd', verb - DEVICE_VERBS, b""), out, at)
+    let row = match verb.checked_sub(DEVICE_VERBS) {
+        Some(verb) => numbered(table, b'd', verb),
+        None => numbered(table, b'a', verb),
+    };
+    row.map_or(at, |row| letters(table, row, out, at))
 }
 
 fn verbs(table: &[u8], list: u8, out: &mut [u8], at: usize) -> usize {
     let mut end = at;
-    let mut number = 1;
-    while number < DEVICE_VERBS {
-        let row = find(table, list, number, b"");
-        if row.number == 0 {
+    for number in 1..DEVICE_VERBS {
+        let Some(row) = numbered(table, list, number) else {
             break;
-        }
-        let name = row.name;
-        end = say(octets::part(table, name), out, end);
-        number += 1;
+        };
+        end = say(octets::part(table, row.name), out, end);
     }
     end
 }
 
 // A row's name, and what the words behind it are called.
 fn letters(table: &[u8], row: Row, out: &mut [u8], at: usize) -> usize {
-    let name = row.name;
-    let mut end = say(octets::part(table, name), out, at);
+    let mut end = say(octets::part(table, row.name), out, at);
     let mut walk = walk_from(row.words);
-    let mut turns = 0;
-    while turns < MOST_WORDS {
-        walk = walk.next(table);
-        let word = walk.word;
-        let letter = byte_at(table, word.start);
+    for _ in 0..MOST_WORDS {
+        let Some(next) = walk.next(table) else {
+            break;
+        };
+        walk = next;
+        let letter = byte_at(table, walk.word.start);
         if letter == b'>' {
             break;
         }
         end = called(table, letter, out, end);
-        turns += 1;
     }
     end
 }
 
 // What a word of this letter is called: its text up to the comma. Without a word it has none.
 fn called(table: &[u8], letter: u8, out: &mut [u8], at: usize) -> usize {
-    let row = find(table, b'e', 0, &[letter]);
-    if row.number == 0 {
-        return at;
+    match named(table, b'e', &[letter]) {
+        Some(row) => {
+            let text = text_at(table, row.words);
+            say(&text[..text::until(text, b',')], out, at)
+        }
+        None => at,
     }
-    let text = text_at(table, row.words);
-    let end = text::until(text, b',');
-    say(&text[0..end], out, at)
 }
 
 fn say(word: &[u8], out: &mut [u8], at: usize) -> usize {
@@ -269,7 +250,7 @@ fn decimal(n: u32, out: &mut [u8], at: usize) -> usize {
 
 // Bytes as pairs of digits, none as `-`.
 fn pairs(bytes: &[u8], out: &mut [u8], at: usize) -> usize {
-    if bytes.len() == 0 {
+    if bytes.is_empty() {
         return say(b"-", out, at);
     }
     let written = text::put_pairs(bytes, from_place(out, at));
@@ -282,27 +263,19 @@ fn words(count: u32, lent: &[u8], out: &mut [u8], at: usize) -> usize {
         return say(b"-", out, at);
     }
     let mut end = at;
-    let mut rest = octets::part(lent, place(0, low(count as usize * 4)));
-    while 4 <= rest.len() {
-        end = pairs(&rest[0..4], out, end);
-        rest = &rest[4..];
+    for word in octets::part(lent, place(0, low(count as usize * 4))).chunks_exact(4) {
+        end = pairs(word, out, end);
     }
     end
 }
 
 // What is written behind the first `at` bytes ends with a space; what had no room is left out.
-fn with_space(written: Written, out: &mut [u8], at: usize) -> usize {
+fn with_space(written: Result<usize, Refusal>, out: &mut [u8], at: usize) -> usize {
     match written {
-        Written::Bytes(n) => {
-            if out.len() < at {
-                return at;
-            }
-            if out.len() - at <= n {
-                return at;
-            }
+        Ok(n) if at <= out.len() && n < out.len() - at => {
             out[at + n] = b' ';
             at + n + 1
         }
-        Written::Refused(_) => at,
+        _ => at,
     }
 }

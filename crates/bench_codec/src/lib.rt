@@ -11,17 +11,16 @@ mod on_views;
 use bench_words::*;
 use images::import::import;
 
-// Answers a request, whose first numbers are n, and all of them `all`. Its bytes lie in `bytes`; what it
-// writes goes to `out`.
-pub fn ask(verb: usize, n: Numbers, all: [u32; 32], bytes: &[u8], out: &mut [u8]) -> Answer {
+// Answers a request by its numbers. Its bytes lie in `bytes`; what it writes goes to `out`.
+pub fn ask(verb: usize, n: Numbers, bytes: &[u8], out: &mut [u8]) -> Answer {
     match verb {
         1..=9 => on_packet::ask(verb, n, bytes, out),
         10..=13 => on_fields::ask(verb, n, bytes, out),
-        14..=18 => on_commands::ask(verb, n, all, bytes, out),
+        14..=18 => on_commands::ask(verb, n, bytes, out),
         19..=26 => on_facts::ask(verb, n),
         27..=32 => on_views::ask(verb, n, bytes, out),
         44 => on_packet::ask(verb, n, bytes, out),
-        45 => with_output(done(import(head(bytes, n.a), out))),
-        _ => on_responses::ask(verb, n, all, bytes, out),
+        45 => with_output(done(import(head(bytes, n[0]), out))),
+        _ => on_responses::ask(verb, n, bytes, out),
     }
 }

@@ -4,20 +4,20 @@ use crate::on_fields::of_addr;
 use bench_records::records::*;
 use bench_records::values::*;
 use bench_words::*;
-use commands::decode::ReadCommand;
 use commands::dialect::AddrEncoding::*;
 use commands::dialect::Dialect;
 use commands::dialect::FloatEncoding::*;
 use commands::{Commands, write_ints};
 use numbers::float::from_bits;
 
-pub fn ask(verb: usize, n: Numbers, all: [u32; 32], bytes: &[u8], out: &mut [u8]) -> Answer {
-    let payload = head(bytes, n.a);
-    let one = command_of(n);
-    let values = five_of(all);
+pub fn ask(verb: usize, n: Numbers, bytes: &[u8], out: &mut [u8]) -> Answer {
+    let [a, b, c, d, ..] = n;
+    let payload = head(bytes, a);
+    let one = command_of(first_record(n));
+    let values = five_of(n);
     match verb {
         14 => parsed(payload),
-        15 => command(Commands::mute(addr_of(n.a, n.b, n.c), n.d == 1), values),
+        15 => command(Commands::mute(addr_of(a, b, c), d == 1), values),
         16 => each(&write_ints()),
         17 => written(one.to_bytes(values, payload, out)),
         _ => written(one.to_frame(values, payload, out)),
@@ -26,42 +26,44 @@ pub fn ask(verb: usize, n: Numbers, all: [u32; 32], bytes: &[u8], out: &mut [u8]
 
 fn parsed(packet: &[u8]) -> Answer {
     let decoded = Commands::from_bytes(packet);
-    let values = decoded.values;
-    let answer = decoded.answer;
-    match answer {
-        ReadCommand::Command(read) => command(read, values),
-        ReadCommand::Refused(k) => refused(k),
+    match decoded.answer {
+        Ok(read) => command(read, decoded.values),
+        Err(k) => refused(k),
     }
 }
 
 pub fn of_dialect(n: Numbers) -> Answer {
-    let dialect = dialect_of(n.a, n.b);
-    let on = n.d == 1;
-    let asked = n.c;
+    let [len, encoding, asked, given, ..] = n;
+    let dialect = dialect_of(len, encoding);
+    let on = given == 1;
     match asked {
-        1 => of_addr(dialect.addr(half(n.d))),
-        2 => value(dialect.float(from_bits(n.d))),
-        3 => value(dialect.int(half(n.d))),
-        4 => value(dialect.delay(n.d)),
+        1 => of_addr(dialect.addr(half(given))),
+        2 => value(dialect.float(from_bits(given))),
+        3 => value(dialect.int(half(given))),
+        4 => value(dialect.delay(given)),
         5 => value(dialect.mute(on)),
         _ => value(dialect.invert(on)),
     }
 }
 
 fn dialect_of(len: u32, encoding: u32) -> Dialect {
-    let addr_encoding = if len == 1 { AddrLen2 } else { AddrLen3 };
-    let float_encoding = if encoding == 1 { Float32LE } else { FixedPoint };
     Dialect {
-        addr_encoding,
-        float_encoding,
+        addr_encoding: if len == 1 { AddrLen2 } else { AddrLen3 },
+        float_encoding: if encoding == 1 { Float32LE } else { FixedPoint },
     }
 }
 
 pub fn default_dialect() -> Answer {
     let dialect = Dialect::const_default();
-    let addr_encoding = dialect.addr_encoding;
-    let float_encoding = dialect.float_encoding;
-    let len = if let AddrLen2 = addr_encoding { 1 } else { 2 };
-    let encoding = if let Float32LE = float_encoding { 1 } else { 2 };
+    let len = if matches!(dialect.addr_encoding, AddrLen2) {
+        1
+    } else {
+        2
+    };
+    let encoding = if matches!(dialect.float_encoding, Float32LE) {
+        1
+    } else {
+        2
+    };
     of(len, encoding, 0, 0)
 }

@@ -6,15 +6,16 @@ use facts::source::Source;
 use facts::{DeviceInfo, eeprom};
 
 pub fn ask(verb: usize, n: Numbers) -> Answer {
-    let info = info_of(n.a, n.b);
+    let [hw_id, dsp_version, third, ..] = n;
+    let info = info_of(hw_id, dsp_version);
     match verb {
         19 => of_dialect(n),
         20 => default_dialect(),
         21 => number(kind(info.device_kind())),
         22 => number(info.supports_dirac() as u32),
         23 => sources(info),
-        24 => number(source(Source::from_id(byte(n.c), info))),
-        25 => number(source_of(n.c).to_id(info) as u32),
+        24 => number(source(Source::from_id(byte(third), info))),
+        25 => number(source_of(third).to_id(info) as u32),
         _ => each(&eeprom::all()),
     }
 }
@@ -32,35 +33,20 @@ pub fn info_of(hw_id: u32, dsp_version: u32) -> DeviceInfo {
 // Each source of a device and its number; the first that is not there has no name.
 fn sources(info: DeviceInfo) -> Answer {
     let mapping = Source::mapping(info);
-    let mut n = number(0);
-    let mut i = 0;
-    while i < 7 {
-        if mapping.count <= i {
-            break;
-        }
-        let entry = mapping.entries[i];
-        let of_entry = entry.source;
-        n[2 * i] = source(of_entry);
-        n[2 * i + 1] = entry.id as u32;
-        i += 1;
+    let mut numbers = [0; 32];
+    let pairs = numbers.chunks_exact_mut(2);
+    for (pair, entry) in pairs.zip(mapping.entries.iter().take(mapping.count)) {
+        pair[0] = source(entry.source);
+        pair[1] = u32::from(entry.id);
     }
-    n
+    of_numbers(numbers)
 }
 
 // Each number of a list, as far as an answer has numbers.
 pub fn each(all: &[u16]) -> Answer {
-    let mut n = number(0);
-    let mut i = 0;
-    while i < all.len() {
-        if 24 <= i {
-            break;
-        }
-        n[i] = wide(all[i]);
-        i += 1;
+    let mut numbers = [0; 32];
+    for (number, one) in numbers.iter_mut().zip(all) {
+        *number = u32::from(*one);
     }
-    n
-}
-
-fn wide(half: u16) -> u32 {
-    half as u32
+    of_numbers(numbers)
 }

@@ -3,16 +3,18 @@ use bench_records::values::*;
 use bench_words::*;
 use fields::addr::*;
 use fields::value::*;
+use octets::Refusal;
 
 pub fn ask(verb: usize, n: Numbers, bytes: &[u8], out: &mut [u8]) -> Answer {
+    let [a, b, c, d, e, ..] = n;
     match verb {
-        10 => match Addr::read(head(bytes, n.b), byte(n.a)) {
-            ReadAddr::Is(addr) => of_addr(addr),
-            ReadAddr::Refused(k) => refused(k),
+        10 => match Addr::read(head(bytes, b), byte(a)) {
+            Ok(addr) => of_addr(addr),
+            Err(k) => refused(k),
         },
-        11 => read_value(Value::from_bytes(head(bytes, n.a), place(n.b, n.c))),
-        12 => written(addr_of(n.b, n.c, n.d).write(out)),
-        _ => written(value_of(n.c, n.d, n.e).into_bytes(head(bytes, n.a), out)),
+        11 => read_value(Value::from_bytes(head(bytes, a), place(b, c))),
+        12 => written(addr_of(b, c, d).write(out)),
+        _ => written(value_of(c, d, e).into_bytes(head(bytes, a), out)),
     }
 }
 
@@ -20,9 +22,9 @@ pub fn of_addr(addr: Addr) -> Answer {
     of(addr.len as u32, addr.extra_bit as u32, addr.val, 0)
 }
 
-pub fn read_value(read: ReadValue) -> Answer {
+pub fn read_value(read: Result<Value, Refusal>) -> Answer {
     match read {
-        ReadValue::Is(one) => value(one),
-        ReadValue::Refused(k) => refused(k),
+        Ok(one) => value(one),
+        Err(k) => refused(k),
     }
 }

@@ -4,48 +4,49 @@ use crate::on_fields::read_value;
 use crate::on_views::*;
 use bench_records::records::*;
 use bench_records::values::*;
-use bench_words::read::SECOND_RECORD;
 use bench_words::*;
+use facts::source::Source;
 use numbers::float::to_bits;
-use responses::decode::ReadResponse;
+use numbers::gain::Gain;
 use responses::kind::*;
 use responses::matching::matches_response;
 use responses::status::*;
 use responses::{Responses, Values};
-use views::memory::ReadByte;
 
-pub fn ask(verb: usize, n: Numbers, all: [u32; 32], bytes: &[u8], out: &mut [u8]) -> Answer {
-    let held = head(bytes, n.a);
-    let one = response_of(n);
+pub fn ask(verb: usize, n: Numbers, bytes: &[u8], out: &mut [u8]) -> Answer {
+    let [a, ..] = n;
+    let held = head(bytes, a);
+    let one = response_of(first_record(n));
     match verb {
         33 => parsed(held),
         34 => kinds(one),
-        35 => into(n.a, one),
-        36 => matching(n, all),
+        35 => into(a, one),
+        36 => matching(n),
         39 => written(one.to_bytes(held, out)),
         40 => written(one.to_frame(held, out)),
-        42..=43 => number(n.a),
+        42..=43 => number(a),
         _ => of_values(verb, n, bytes),
     }
 }
 
 fn parsed(packet: &[u8]) -> Answer {
     match Responses::from_bytes(packet) {
-        ReadResponse::Response(read) => response(read),
-        ReadResponse::Refused(k) => refused(k),
+        Ok(read) => response(read),
+        Err(k) => refused(k),
     }
 }
 
 // The response stands behind the command.
-fn matching(n: Numbers, all: [u32; 32]) -> Answer {
-    let other = response_of(numbers_from(all, SECOND_RECORD));
-    number(matches_response(command_of(n), other) as u32)
+fn matching(n: Numbers) -> Answer {
+    let command = command_of(first_record(n));
+    number(matches_response(command, response_of(second_record(n))) as u32)
 }
 
 fn of_values(verb: usize, n: Numbers, bytes: &[u8]) -> Answer {
+    let [a, b, c, d, e, ..] = n;
     match verb {
-        37 => all_values(values_of(n.b, n.c, n.d), n),
-        38 => read_value(values_of(n.c, n.d, n.e).get(head(bytes, n.a), n.b as usize)),
+        37 => all_values(values_of(b, c, d), n),
+        38 => read_value(values_of(c, d, e).get(head(bytes, a), b as usize)),
         _ => status(n, bytes),
     }
 }
@@ -65,66 +66,60 @@ fn into(kind: u32, one: Responses) -> Answer {
         1 => memory(one.into_memory_view()),
         2 => floats(one.into_float_view()),
         3 => match one.into_hardware_id() {
-            Identified::Is(id) => of(id.fw_major as u32, id.fw_minor as u32, id.hw_id as u32, 0),
-            Identified::Refused(k) => refused(k),
+            Ok(id) => of(id.fw_major as u32, id.fw_minor as u32, id.hw_id as u32, 0),
+            Err(k) => refused(k),
         },
         4 => done(one.into_ack()),
         5 => done(one.into_config_changed()),
         _ => match one.into_fir_size() {
-            ReadSize::Is(n) => number(n as u32),
-            ReadSize::Refused(k) => refused(k),
+            Ok(n) => number(n as u32),
+            Err(k) => refused(k),
         },
     }
 }
 
 // How many values there are, and each of them.
 fn all_values(all: Values, n: Numbers) -> Answer {
-    let mut answer = of(low(all.count()), n.b, n.c, n.d);
-    if n.b == 6 {
-        answer[1] = 0;
-        answer[VALUES] = n.c;
-        answer[VALUES_LEN] = n.d;
+    let count = low(all.count());
+    match all {
+        Values::Chunks(values) => Answer {
+            values,
+            ..number(count)
+        },
+        Values::One(_) => {
+            let [_, b, c, d, ..] = n;
+            of(count, b, c, d)
+        }
     }
-    answer
 }
 
 fn status(n: Numbers, bytes: &[u8]) -> Answer {
-    let view = memory_of(n.d, n.e, n.f);
-    let status = MasterStatus::from_memory(info_of(n.a, n.b), view, head(bytes, n.c));
-    let preset = status.preset;
-    let source = status.source;
-    let volume = status.volume;
-    let mute = status.mute;
-    let dirac = status.dirac;
-    let n = of(known(preset), input(source), loud(volume), flag(mute));
-    with(n, flag(dirac), 0, 0)
+    let [hw_id, dsp_version, len, base, start, count, ..] = n;
+    let view = memory_of(base, start, count);
+    let MasterStatus {
+        preset,
+        source,
+        volume,
+        mute,
+        dirac,
+    } = MasterStatus::from_memory(info_of(hw_id, dsp_version), view, head(bytes, len));
+    let answer = of(known(preset), input(source), loud(volume), flag(mute));
+    with(answer, flag(dirac), 0, 0)
 }
 
 // What is known counts from 1.
-fn known(byte: ReadByte) -> u32 {
-    match byte {
-        ReadByte::Is(n) => n as u32 + 1,
-        ReadByte::Outside => 0,
-    }
+fn known(byte: Option<u8>) -> u32 {
+    byte.map_or(0, |n| u32::from(n) + 1)
 }
 
-fn input(input: Input) -> u32 {
-    match input {
-        Input::Is(one) => source(one),
-        Input::Unknown => 0,
-    }
+fn input(input: Option<Source>) -> u32 {
+    input.map_or(0, source)
 }
 
-fn flag(flag: Flag) -> u32 {
-    match flag {
-        Flag::Is(yes) => if yes { 2 } else { 1 },
-        Flag::Unknown => 0,
-    }
+fn flag(flag: Option<bool>) -> u32 {
+    flag.map_or(0, |yes| u32::from(yes) + 1)
 }
 
-fn loud(volume: Volume) -> u32 {
-    match volume {
-        Volume::Is(gain) => low(to_bits(gain.0) as usize + 1),
-        Volume::Unknown => 0,
-    }
+fn loud(volume: Option<Gain>) -> u32 {
+    volume.map_or(0, |gain| low(to_bits(gain.0) as usize + 1))
 }

@@ -3,68 +3,53 @@ use crate::on_packet::at;
 use bench_records::records::*;
 use bench_words::read::SECOND_BYTES;
 use bench_words::*;
-use views::ReadPart;
+use octets::Refusal;
 use views::floats::*;
 use views::memory::*;
 
 pub fn ask(verb: usize, n: Numbers, bytes: &[u8], out: &mut [u8]) -> Answer {
-    let held = head(bytes, n.a);
-    let view = memory_of(n.b, n.c, n.d);
+    let [len, base, start, count, addr, size, ..] = n;
+    let held = head(bytes, len);
+    let view = memory_of(base, start, count);
     match verb {
-        27 => match view.read_at(held, half(n.e), byte(n.f)) {
-            ReadPart::At(place) => at(place),
-            ReadPart::Outside => none(),
+        27 => view
+            .read_at(held, half(addr), byte(size))
+            .map_or_else(none, at),
+        28 => view
+            .read_u8(held, half(addr))
+            .map_or_else(none, |n| number(u32::from(n))),
+        29 => view
+            .read_u16(held, half(addr))
+            .map_or_else(none, |n| number(u32::from(n))),
+        30 => match floats_of(base, start, count).get(held, half(addr)) {
+            Ok(bits) => number(bits),
+            Err(k) => refused(k),
         },
-        28 => match view.read_u8(held, half(n.e)) {
-            ReadByte::Is(n) => number(n as u32),
-            ReadByte::Outside => none(),
-        },
-        29 => match view.read_u16(held, half(n.e)) {
-            ReadWord::Is(n) => number(n as u32),
-            ReadWord::Outside => none(),
-        },
-        _ => with_floats(verb, n, bytes, out),
-    }
-}
-
-fn with_floats(verb: usize, n: Numbers, bytes: &[u8], out: &mut [u8]) -> Answer {
-    let view = floats_of(n.b, n.c, n.d);
-    if verb != 30 {
-        return join(verb, n, bytes, out);
-    }
-    match view.get(head(bytes, n.a), half(n.e)) {
-        ReadBits::Is(bits) => number(bits),
-        ReadBits::Refused(k) => refused(k),
+        _ => join(verb, n, bytes, out),
     }
 }
 
 // The second view's words stand behind the first's, and its bytes in their own part.
 fn join(verb: usize, n: Numbers, bytes: &[u8], out: &mut [u8]) -> Answer {
-    let first = head(bytes, n.a);
-    let second = octets::part(bytes, place(SECOND_BYTES, n.e));
-    if verb == 31 {
-        let view = memory_of(n.b, n.c, n.d);
-        let other = memory_of(n.f, n.g, n.h);
-        return with_output(memory(view.extend_with(first, other, second, out)));
-    }
-    let view = floats_of(n.b, n.c, n.d);
-    let other = floats_of(n.f, n.g, n.h);
-    with_output(floats(view.extend_with(first, other, second, out)))
+    let [a, b, c, d, e, f, g, h, ..] = n;
+    let first = head(bytes, a);
+    let second = octets::part(bytes, place(SECOND_BYTES, e));
+    with_output(match verb {
+        31 => memory(memory_of(b, c, d).extend_with(first, memory_of(f, g, h), second, out)),
+        _ => floats(floats_of(b, c, d).extend_with(first, floats_of(f, g, h), second, out)),
+    })
 }
 
-pub fn memory(joined: MemoryAnswer) -> Answer {
+pub fn memory(joined: Result<MemoryView, Refusal>) -> Answer {
     match joined {
-        MemoryAnswer::Is(view) => {
-            let data = view.data;
-            of(view.base as u32, low(data.start), low(data.len), 0)
-        }
-        MemoryAnswer::Refused(k) => refused(k),
+        Ok(MemoryView { base, data }) => { of(u32::from(base), low(data.start), low(data.len), 0) }
+        Err(k) => refused(k),
     }
 }
 
-pub fn floats(joined: FloatsAnswer) -> Answer {
+pub fn floats(joined: Result<FloatView, Refusal>) -> Answer {
     match joined {
-        FloatsAnswer::Is(view) => of(view.base as u32, low(view.start), low(view.count), 0),
-        FloatsAnswer::Refused(k) => refused(k),
+        Ok(view) => of(view.base as u32, low(view.start), low(view.count), 0),
+        Err(k) => refused(k),
     }
 }

@@ -3,7 +3,7 @@ use bench_words::*;
 use images::export::export;
 use images::import::import;
 use images::store::store_image;
-use octets::Done;
+use octets::Refusal;
 use programs::lent::front;
 
 // As much as can be lent.
@@ -18,19 +18,9 @@ pub fn ask(verb: usize, given: &[u8], kept: &[u8], eeprom: &mut [u8], out: &mut 
 }
 
 // The text is read into an image beside the EEPROM, which is then stored.
-fn restore(hex: &[u8], eeprom: &mut [u8]) -> Done {
+fn restore(hex: &[u8], eeprom: &mut [u8]) -> Result<(), Refusal> {
     let mut image = [0u8; LARGEST_LENT];
-    restore_by(hex, eeprom, &mut image)
-}
-
-fn restore_by(hex: &[u8], eeprom: &mut [u8], image: &mut [u8; LARGEST_LENT]) -> Done {
-    restore_from(hex, eeprom, image)
-}
-
-fn restore_from(hex: &[u8], eeprom: &mut [u8], image: &mut [u8]) -> Done {
-    let lent = front(image, eeprom.len());
-    match import(hex, lent) {
-        Done::Done => store_image(&lent[..], eeprom),
-        Done::Refused(k) => Done::Refused(k),
-    }
+    let lent = front(&mut image, eeprom.len());
+    import(hex, lent)?;
+    store_image(lent, eeprom)
 }

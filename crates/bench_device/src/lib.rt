@@ -1,23 +1,21 @@
 // The bench's requests over one processor with its memories, over a save and over an image, by the
-// numbers of their verbs. What is held of the processor is the numbers that its making answers.
+// numbers of their verbs.
 #![tactic(auto)]
 
 mod hex;
 mod look;
-mod make;
+pub mod make;
 
 use bench_records::records::*;
 use bench_words::*;
 use commands::Commands;
 use device::execute::*;
-pub use make::device_of;
-use octets::Done;
+use octets::Refusal;
 use processor::Device;
 use processor::eeprom::*;
 use saves::replay::replay;
 use saves::save::save;
 use streams::judge::judge;
-use streams::shape::Judged;
 
 // Answers a request on what is lent of the two memories. Its bytes lie in `bytes`, what it writes goes to
 // `out`, and `saved` is the save or the text that is kept.
@@ -27,16 +25,18 @@ pub fn ask(
     bytes: &[u8],
     saved: &[u8],
     out: &mut [u8],
-    held: Answer,
+    device: &mut Device,
     eeprom: &mut [u8],
     settings: &mut [u32],
 ) -> Answer {
-    let given = head(bytes, n.a);
+    let [len, _, _, _, len_of_meters, ..] = n;
+    let given = head(bytes, len);
+    let command = command_of(first_record(n));
     match verb {
-        1002 => make::bare(n, eeprom, settings),
-        1003 => make::new(n, head(bytes, n.e), eeprom, settings),
-        1007 => executed(device_of(held), command_of(n), given, eeprom, settings, out),
-        1008 => written(execute_into(device_of(held), command_of(n), given, eeprom, settings, out)),
+        1002 => make::bare(n, device, eeprom, settings),
+        1003 => make::new(n, head(bytes, len_of_meters), device, eeprom, settings),
+        1007 => executed(*device, command, given, eeprom, settings, out),
+        1008 => written(execute_into(*device, command, given, eeprom, settings, out)),
         1009..=1011 => look::ask(verb, n, &eeprom[..], &settings[..], out),
         1012..=1016 => done(write(verb, n, eeprom)),
         1029..=1032 => hex::ask(verb, given, saved, eeprom, out),
@@ -54,9 +54,10 @@ fn with_save(
     eeprom: &mut [u8],
     settings: &mut [u32],
 ) -> Answer {
+    let [a, b, ..] = n;
     match verb {
         1017 => written(save(&eeprom[..], &settings[..], out)),
-        1019 => look::peek(octets::part(saved, place(n.a, n.b)), out),
+        1019 => look::peek(octets::part(saved, place(a, b)), out),
         1020 => done(replay(eeprom, settings, saved)),
         1021 => done(replay(eeprom, settings, given)),
         1022 => judged(given),
@@ -65,20 +66,21 @@ fn with_save(
     }
 }
 
-fn write(verb: usize, n: Numbers, eeprom: &mut [u8]) -> Done {
+fn write(verb: usize, n: Numbers, eeprom: &mut [u8]) -> Result<(), Refusal> {
+    let [a, b, ..] = n;
     match verb {
-        1012 => write_eeprom_u8(half(n.a), byte(n.b), eeprom),
-        1013 => write_eeprom_u16(half(n.a), half(n.b), eeprom),
-        1014 => write_eeprom_u32(half(n.a), n.b, eeprom),
-        1015 => set_serial(n.a, eeprom),
-        _ => set_timestamp(n.a, eeprom),
+        1012 => write_eeprom_u8(half(a), byte(b), eeprom),
+        1013 => write_eeprom_u16(half(a), half(b), eeprom),
+        1014 => write_eeprom_u32(half(a), b, eeprom),
+        1015 => set_serial(a, eeprom),
+        _ => set_timestamp(a, eeprom),
     }
 }
 
 fn judged(save: &[u8]) -> Answer {
     match judge(save) {
-        Judged::Sound(shape) => of(low(shape.eeprom), low(shape.settings), 0, 0),
-        Judged::Refused(k) => refused(k),
+        Ok(shape) => of(low(shape.eeprom), low(shape.settings), 0, 0),
+        Err(k) => refused(k),
     }
 }
 
@@ -93,13 +95,9 @@ fn executed(
 ) -> Answer {
     let mut data = [0xeeu8; 1020];
     let executed = execute(device, command, payload, eeprom, settings, &mut data);
-    put_all(&data, out);
+    let _ = octets::put(&data, out);
     match executed {
-        Executed::Response(one) => response(one),
-        Executed::Refused(k) => refused(k),
+        Ok(one) => response(one),
+        Err(k) => refused(k),
     }
-}
-
-fn put_all(data: &[u8; 1020], out: &mut [u8]) {
-    octets::put(data, out);
 }

@@ -1,33 +1,30 @@
 // What stands in the memories and in a save.
 use bench_words::*;
-use octets::number::big_bytes32;
+use octets::number::big_bytes;
+use std::cmp::min;
 
 pub fn ask(verb: usize, n: Numbers, eeprom: &[u8], settings: &[u32], out: &mut [u8]) -> Answer {
+    let [a, b, ..] = n;
     match verb {
-        1009 => peek(octets::part(eeprom, place(n.a, n.b)), out),
-        1010 => peek_words(n.a, settings, out),
+        1009 => peek(octets::part(eeprom, place(a, b)), out),
+        1010 => peek_words(a, settings, out),
         _ => digest(eeprom, settings),
     }
 }
 
 // Bytes, put at the start of the output.
 pub fn peek(part: &[u8], out: &mut [u8]) -> Answer {
-    octets::put(part, out);
+    let _ = octets::put(part, out);
     number(low(part.len()))
 }
 
 // The words from a place on, so far as there are any, put there as their bytes.
 fn peek_words(start: u32, settings: &[u32], out: &mut [u8]) -> Answer {
-    let mut i = 0;
-    while i < out.len() / 4 {
-        let at = start as usize + i;
-        if settings.len() <= at {
-            break;
-        }
-        octets::put(&big_bytes32(settings[at]), &mut out[4 * i..]);
-        i += 1;
+    let words = settings.get(start as usize..).unwrap_or(&[]);
+    for (bytes, word) in out.chunks_exact_mut(4).zip(words) {
+        bytes.copy_from_slice(&big_bytes::<4>(*word));
     }
-    number(low(i))
+    number(low(min(words.len(), out.len() / 4)))
 }
 
 // How much of each memory is lent, and a number that depends on what stands at each place.
@@ -38,30 +35,16 @@ fn digest(eeprom: &[u8], settings: &[u32]) -> Answer {
 }
 
 fn digest_bytes(eeprom: &[u8]) -> u32 {
-    let mut sum = 0;
-    let mut i = 0;
-    while i < eeprom.len() {
-        sum = digest_with(sum, wide(eeprom[i]));
-        i += 1;
-    }
-    sum
+    eeprom
+        .iter()
+        .fold(0, |sum, byte| digest_with(sum, u32::from(*byte)))
 }
 
 fn digest_words(settings: &[u32]) -> u32 {
-    let mut sum = 0;
-    let mut i = 0;
-    while i < settings.len() {
-        sum = digest_with(sum, settings[i]);
-        i += 1;
-    }
-    sum
-}
-
-fn wide(byte: u8) -> u32 {
-    byte as u32
+    settings.iter().fold(0, |sum, word| digest_with(sum, *word))
 }
 
 // The factor is odd, so that a change at one place always shows.
 fn digest_with(sum: u32, next: u32) -> u32 {
-    ((sum as u64 * 16_777_619 + next as u64) % 0x1_0000_0000) as u32
+    sum.wrapping_mul(16_777_619).wrapping_add(next)
 }

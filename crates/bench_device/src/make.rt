@@ -3,66 +3,76 @@ ghost use Rattle.std.specs.Prelude.{◌≤◌, length};
 
 use bench_records::values::*;
 use bench_words::*;
+use octets::Refusal;
 use octets::number::big16;
-use processor::create::Made;
 use processor::{Device, create};
+use std::cmp::min;
 
 // The most meters that a request names.
 const METERS: usize = 512;
 
-pub fn bare(n: Numbers, eeprom: &mut [u8], settings: &mut [u32]) -> Answer {
-    let kind = kind_of(n.c);
-    let taps = half(n.d);
-    made(create::bare(byte(n.a), byte(n.b), kind, taps, eeprom, settings))
+pub fn bare(n: Numbers, device: &mut Device, eeprom: &mut [u8], settings: &mut [u32]) -> Answer {
+    let [hw_id, dsp_version, kind, taps, ..] = n;
+    let made = create::bare(
+        byte(hw_id),
+        byte(dsp_version),
+        kind_of(kind),
+        half(taps),
+        eeprom,
+        settings,
+    );
+    held(made, device)
 }
 
-pub fn new(n: Numbers, bytes: &[u8], eeprom: &mut [u8], settings: &mut [u32]) -> Answer {
+pub fn new(
+    n: Numbers,
+    bytes: &[u8],
+    device: &mut Device,
+    eeprom: &mut [u8],
+    settings: &mut [u32],
+) -> Answer {
+    let [hw_id, dsp_version, kind, taps, ..] = n;
     let mut meters = [0u16; METERS];
     let count = meters_of(bytes, &mut meters);
-    let kind = kind_of(n.c);
-    let taps = half(n.d);
-    let all = &meters[0..count];
-    made(create::new(byte(n.a), byte(n.b), kind, taps, all, eeprom, settings))
+    let made = create::new(
+        byte(hw_id),
+        byte(dsp_version),
+        kind_of(kind),
+        half(taps),
+        &meters[..count],
+        eeprom,
+        settings,
+    );
+    held(made, device)
 }
 
 // Puts the addresses in bytes at the start of meters, and answers how many those are.
 fn meters_of(bytes: &[u8], meters: &mut [u16]) -> usize
     ensures { result ≤ length meters.old }
 {
-    let mut i = 0;
-    while i < bytes.len() / 2 {
-        if meters.len() <= i {
-            return i;
-        }
-        meters[i] = big16(bytes, 2 * i);
-        i += 1;
+    for (meter, addr) in meters.iter_mut().zip(bytes.chunks_exact(2)) {
+        *meter = big16(addr, 0);
     }
-    i
+    min(meters.len(), bytes.len() / 2)
 }
 
-fn made(made: Made) -> Answer {
+// A device that is made takes the place of the one that is held.
+fn held(made: Result<Device, Refusal>, device: &mut Device) -> Answer {
     match made {
-        Made::Is(device) => of_device(device),
-        Made::Refused(k) => refused(k),
+        Ok(new) => {
+            *device = new;
+            of_device(new)
+        }
+        Err(k) => refused(k),
     }
 }
 
-fn of_device(device: Device) -> Answer {
-    let of_kind = device.kind;
-    let major = device.fw_major as u32;
-    let minor = device.fw_minor as u32;
-    let n = of(device.hw_id as u32, device.dsp_version as u32, major, minor);
-    with(n, kind(of_kind), device.fir_max_taps as u32, 0)
-}
-
-pub fn device_of(n: Answer) -> Device {
-    let kind = kind_of(n[4]);
-    Device {
-        hw_id: byte(n[0]),
-        dsp_version: byte(n[1]),
-        fw_major: byte(n[2]),
-        fw_minor: byte(n[3]),
-        kind,
-        fir_max_taps: half(n[5]),
-    }
+pub fn of_device(device: Device) -> Answer {
+    let answer = of(
+        u32::from(device.hw_id),
+        u32::from(device.dsp_version),
+        u32::from(device.fw_major),
+        u32::from(device.fw_minor),
+    );
+    with(answer, kind(device.kind), u32::from(device.fir_max_taps), 0)
 }

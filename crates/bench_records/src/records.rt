@@ -8,116 +8,106 @@ use fields::addr::Addr;
 use fields::value::*;
 use numbers::float::*;
 use numbers::gain::Gain;
-use octets::Place;
-use responses::Responses;
+use responses::{Responses, Values};
 use views::floats::FloatView;
 use views::memory::MemoryView;
 
-pub fn command_of(n: Numbers) -> Commands {
-    let addr = half(n.d);
-    let index = byte(n.d);
-    let len = byte(n.e);
-    let data = place(n.e, n.f);
-    let start = data.start;
-    let count = data.len;
-    let fir = FirData { start, count };
-    let bulk = place(n.d, n.e);
-    let kind = n.c;
+pub fn command_of(record: Record) -> Commands {
+    let [kind, d, e, f, ..] = record;
+    let addr = half(d);
+    let data = place(e, f);
+    let payload = place(d, e);
     match kind {
         1 => ReadHardwareId,
         2 => FirLoadEnd,
-        3 => ReadFloats { addr, len },
-        4 => ReadMemory { addr, size: len },
+        3 => ReadFloats { addr, len: byte(e) },
+        4 => ReadMemory {
+            addr,
+            size: byte(e),
+        },
         5 => WriteMemory { addr, data },
-        6 => FirLoadData { index, data: fir },
-        7 => unknown(index, data),
-        8 => BulkLoad { payload: bulk },
-        9 => BulkLoadFilterData { payload: bulk },
-        10..=16 => with_bytes(n),
-        _ => with_address(n),
+        6 => FirLoadData {
+            index: byte(d),
+            data: FirData {
+                start: data.start,
+                count: data.len,
+            },
+        },
+        7 => Unknown {
+            cmd_id: byte(d),
+            payload: data,
+        },
+        8 => BulkLoad { payload },
+        9 => BulkLoadFilterData { payload },
+        10..=16 => with_bytes(record),
+        _ => with_address(record),
     }
 }
 
-fn unknown(cmd_id: u8, payload: Place) -> Commands {
-    Unknown { cmd_id, payload }
-}
-
-fn with_bytes(n: Numbers) -> Commands {
-    let config = byte(n.d);
-    let reset = n.e == 1;
-    let value = Gain(from_bits(n.d));
-    let kind = n.c;
+fn with_bytes(record: Record) -> Commands {
+    let [kind, d, e, ..] = record;
+    let byte = byte(d);
     match kind {
-        10 => SetConfig { config, reset },
-        11 => SetSource { source: config },
-        12 => SetMute { value: n.d == 1 },
-        13 => SetVolume { value },
-        14 => FirLoadStart { index: config },
-        15 => DiracBypass { value: config },
-        _ => Unk07 { payload: config },
+        10 => SetConfig {
+            config: byte,
+            reset: e == 1,
+        },
+        11 => SetSource { source: byte },
+        12 => SetMute { value: d == 1 },
+        13 => SetVolume {
+            value: Gain(from_bits(d)),
+        },
+        14 => FirLoadStart { index: byte },
+        15 => DiracBypass { value: byte },
+        _ => Unk07 { payload: byte },
     }
 }
 
-fn with_address(n: Numbers) -> Commands {
-    let addr = addr_of(n.d, n.e, n.f);
-    let len = byte(n.g);
-    let value = value_of(n.g, n.h, n.i);
-    let kind = n.c;
+fn with_address(record: Record) -> Commands {
+    let [kind, d, e, f, g, h, i] = record;
+    let addr = addr_of(d, e, f);
     match kind {
-        17 => bypass(addr, n.g == 1),
-        18 => Read { addr, len },
+        17 => WriteBiquadBypass {
+            addr,
+            value: g == 1,
+        },
+        18 => Read { addr, len: byte(g) },
         19 => SwitchMux(Mux {
             addr,
-            max: len,
-            arg: n.h == 1,
-            slot: byte(n.i),
+            max: byte(g),
+            arg: h == 1,
+            slot: byte(i),
         }),
-        20 => Write { addr, value },
+        20 => Write {
+            addr,
+            value: value_of(g, h, i),
+        },
         _ => WriteBiquad { addr },
     }
 }
 
-fn bypass(addr: Addr, value: bool) -> Commands {
-    WriteBiquadBypass { addr, value }
-}
-
 // The five values that stand beside a command: those of WriteBiquad.
-pub fn five_of(n: [u32; 32]) -> [Coefficient; 5] {
-    let zero = Coefficient {
-        value: Value::Float(0.0),
-    };
-    let mut all = [zero; 5];
-    let mut i = 0;
-    while i < 5 {
-        let at = 6 + 3 * i;
-        let value = value_of(n[at], n[at + 1], n[at + 2]);
-        all[i] = Coefficient { value };
-        i += 1;
+pub fn five_of(n: Numbers) -> [Value; 5] {
+    let mut five = [Value::Float(0.0); 5];
+    for (one, of_value) in five.iter_mut().zip(n[6..21].chunks_exact(3)) {
+        *one = value_of(of_value[0], of_value[1], of_value[2]);
     }
-    all
+    five
 }
 
-pub fn command(command: Commands, five: [Coefficient; 5]) -> Answer {
-    let n = command_numbers(command);
+pub fn command(command: Commands, five: [Value; 5]) -> Answer {
+    let answer = command_numbers(command);
     match command {
-        WriteBiquad { addr: _ } => with_five(n, five),
-        _ => n,
+        WriteBiquad { addr: _ } => with_five(answer, five),
+        _ => answer,
     }
 }
 
-fn with_five(mut numbers: Answer, five: [Coefficient; 5]) -> Answer {
-    let mut i = 0;
-    while i < 5 {
-        let coefficient = five[i];
-        let one = coefficient.value;
-        let n = value(one);
-        let at = 4 + 3 * i;
-        numbers[at] = n[0];
-        numbers[at + 1] = n[1];
-        numbers[at + 2] = n[2];
-        i += 1;
+fn with_five(mut answer: Answer, five: [Value; 5]) -> Answer {
+    for (one, of_value) in five.iter().zip(answer.numbers[4..19].chunks_exact_mut(3)) {
+        of_value.copy_from_slice(&value(*one).numbers[..3]);
     }
-    numbers
+    answer
 }
 
 fn command_numbers(command: Commands) -> Answer {
@@ -140,10 +130,14 @@ fn command_numbers(command: Commands) -> Answer {
         Unk07 { payload } => of(16, payload as u32, 0, 0),
         WriteBiquadBypass { addr, value } => of_addr(17, addr, value as u32, 0, 0),
         Read { addr, len } => of_addr(18, addr, len as u32, 0, 0),
-        SwitchMux(mux) => {
-            let addr = mux.addr;
-            of_addr(19, addr, mux.max as u32, mux.arg as u32, mux.slot as u32)
-        }
+        SwitchMux(
+            Mux {
+                addr,
+                max,
+                arg,
+                slot,
+            },
+        ) => of_addr(19, addr, max as u32, arg as u32, slot as u32),
         Write { addr, value: one } => of_values(20, addr, value(one)),
         WriteBiquad { addr } => of_addr(21, addr, 0, 0, 0),
     }
@@ -155,56 +149,61 @@ fn of_addr(kind: u32, addr: Addr, e: u32, f: u32, g: u32) -> Answer {
     with(n, e, f, g)
 }
 
-fn of_values(kind: u32, addr: Addr, n: Answer) -> Answer {
-    of_addr(kind, addr, n[0], n[1], n[2])
+fn of_values(kind: u32, addr: Addr, values: Answer) -> Answer {
+    let [e, f, g, ..] = values.numbers;
+    of_addr(kind, addr, e, f, g)
 }
 
-pub fn response_of(n: Numbers) -> Responses {
-    let addr = addr_of(n.d, n.e, n.f);
-    let data = values_of(n.g, n.h, n.i);
-    let size = half(n.d);
-    let kind = n.c;
+pub fn response_of(record: Record) -> Responses {
+    let [kind, d, e, f, g, h, i] = record;
     match kind {
         1 => Responses::Ack,
         2 => Responses::ConfigChanged,
         3 => Responses::Unk02,
-        4 => Responses::MemoryData(memory_of(n.d, n.e, n.f)),
-        5 => Responses::FloatData(floats_of(n.d, n.e, n.f)),
+        4 => Responses::MemoryData(memory_of(d, e, f)),
+        5 => Responses::FloatData(floats_of(d, e, f)),
         6 => Responses::Unknown {
-            cmd_id: byte(n.d),
-            payload: place(n.e, n.f),
+            cmd_id: byte(d),
+            payload: place(e, f),
         },
         7 => Responses::HardwareId(HardwareId {
-            fw_major: byte(n.d),
-            fw_minor: byte(n.e),
-            hw_id: byte(n.f),
+            fw_major: byte(d),
+            fw_minor: byte(e),
+            hw_id: byte(f),
         }),
-        8 => Responses::FirLoadSize { size },
-        _ => Responses::Read { addr, data },
+        8 => Responses::FirLoadSize { size: half(d) },
+        _ => Responses::Read {
+            addr: addr_of(d, e, f),
+            data: values_of(g, h, i),
+        },
     }
 }
 
 pub fn memory_of(base: u32, start: u32, len: u32) -> MemoryView {
-    let base = half(base);
-    let data = place(start, len);
-    MemoryView { base, data }
+    MemoryView {
+        base: half(base),
+        data: place(start, len),
+    }
 }
 
 pub fn floats_of(base: u32, start: u32, count: u32) -> FloatView {
-    let base = half(base);
-    let start = start as usize;
-    let count = count as usize;
-    FloatView { base, start, count }
+    FloatView {
+        base: half(base),
+        start: start as usize,
+        count: count as usize,
+    }
 }
 
 // A response; behind it the values of a Read's chunks, or the length of its payload.
 pub fn response(response: Responses) -> Answer {
-    let mut n = response_numbers(response);
-    if n[0] == 9 && n[4] == 6 {
-        n[VALUES] = n[5];
-        n[VALUES_LEN] = n[6];
+    let answer = response_numbers(response);
+    match response {
+        Responses::Read {
+            addr: _,
+            data: Values::Chunks(values),
+        } => Answer { values, ..answer },
+        _ => answer,
     }
-    n
 }
 
 fn response_numbers(response: Responses) -> Answer {
@@ -212,13 +211,11 @@ fn response_numbers(response: Responses) -> Answer {
         Responses::Ack => number(1),
         Responses::ConfigChanged => number(2),
         Responses::Unk02 => number(3),
-        Responses::MemoryData(view) => {
-            let data = view.data;
-            of_view(4, view.base, data.start, data.len, data.len)
+        Responses::MemoryData(MemoryView { base, data }) => {
+            of_view(4, base, data.start, data.len, data.len)
         }
-        Responses::FloatData(view) => {
-            let bytes = floats_length(view.count);
-            of_view(5, view.base, view.start, view.count, bytes)
+        Responses::FloatData(FloatView { base, start, count }) => {
+            of_view(5, base, start, count, floats_length(count))
         }
         Responses::Unknown { cmd_id, payload } => {
             of(6, cmd_id as u32, low(payload.start), low(payload.len))
@@ -230,18 +227,11 @@ fn response_numbers(response: Responses) -> Answer {
 }
 
 fn of_view(kind: u32, base: u16, start: usize, count: usize, bytes: usize) -> Answer {
-    with(
-        of(kind, base as u32, low(start), low(count)),
-        low(bytes),
-        0,
-        0,
-    )
+    let answer = of(kind, u32::from(base), low(start), low(count));
+    with(answer, low(bytes), 0, 0)
 }
 
 // The most that a payload has is 255 words.
 fn floats_length(count: usize) -> usize {
-    if 255 < count {
-        return 0;
-    }
-    4 * count
+    if 255 < count { 0 } else { 4 * count }
 }

@@ -12,9 +12,6 @@ use numbers::float::*;
 use octets::Place;
 use responses::Values;
 
-// The row of the list z for a value alone.
-const VALUE: u32 = 6;
-
 pub fn addr_of(len: u32, bit: u32, val: u32) -> Addr {
     Addr::new_with_extra_bit(val, byte(len), bit == 1)
 }
@@ -45,10 +42,10 @@ pub fn of_place(a: u32, place: Place) -> Answer {
 
 // The values of a Read: chunks behind the kinds of one value.
 pub fn values_of(kind: u32, a: u32, b: u32) -> Values {
-    if kind == 6 {
-        return Values::Chunks(place(a, b));
+    match kind {
+        6 => Values::Chunks(place(a, b)),
+        _ => Values::One(value_of(kind, a, b)),
     }
-    Values::One(value_of(kind, a, b))
 }
 
 pub fn values(values: Values) -> Answer {
@@ -62,15 +59,12 @@ pub fn values(values: Values) -> Answer {
 // answers where they end.
 pub fn put_each(place: Place, bytes: &[u8], out: &mut [u8], at: usize) -> usize {
     let all = Values::Chunks(place);
-    let count = all.count();
     let mut end = at;
-    let mut i = 0;
-    while i < count {
+    for i in 0..all.count() {
         match all.get(bytes, i) {
-            ReadValue::Is(one) => end = put(by(VALUE, value(one)), 0, bytes, bytes, out, end),
-            ReadValue::Refused(k) => return put(refused(k), 0, bytes, bytes, out, end),
+            Ok(one) => end = put(by(Form::Value, value(one)), 0, bytes, bytes, out, end),
+            Err(k) => return put(refused(k), 0, bytes, bytes, out, end),
         }
-        i += 1;
     }
     end
 }

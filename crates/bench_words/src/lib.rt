@@ -1,74 +1,92 @@
 // The words of the bench: one table of its verbs and names, and what is read and answered by it.
 #![tactic(auto)]
 
+ghost use Rattle.std.specs.Prelude.{◌≡◌, length};
+
 pub mod read;
 pub mod table;
 
-use octets::{Done, Place, Written};
+use octets::{Place, Refusal};
 
-// The first numbers of a request's words, one behind the other. Those of a record begin with c.
-#[derive(Clone, Copy)]
-pub struct Numbers {
-    pub a: u32,
-    pub b: u32,
-    pub c: u32,
-    pub d: u32,
-    pub e: u32,
-    pub f: u32,
-    pub g: u32,
-    pub h: u32,
-    pub i: u32,
+// The numbers of a request's words, or of an answer's.
+pub type Numbers = [u32; 32];
+
+// The numbers of a record: that of its kind, and those of its fields in order.
+pub type Record = [u32; 7];
+
+// Where a request's numbers go on behind `@`.
+pub const SECOND_PART: usize = 20;
+
+// The record that begins with the third number.
+pub fn first_record(n: Numbers) -> Record {
+    record_of(&n[2..9])
 }
 
-// The numbers of all words from one on.
-pub fn numbers_from(all: [u32; 32], first: usize) -> Numbers {
-    let at = first % 24;
-    Numbers {
-        a: all[at],
-        b: all[at + 1],
-        c: all[at + 2],
-        d: all[at + 3],
-        e: all[at + 4],
-        f: all[at + 5],
-        g: all[at + 6],
-        h: all[at + 7],
-        i: all[at + 8],
+// The record that begins with the third number behind `@`.
+pub fn second_record(n: Numbers) -> Record {
+    record_of(&n[SECOND_PART + 2..SECOND_PART + 9])
+}
+
+fn record_of(n: &[u32]) -> Record
+    requires { length n.now ≡ 7 }
+{
+    let mut record = [0; 7];
+    record.copy_from_slice(n);
+    record
+}
+
+// By which row of the table an answer's words are put: its request's own, or one of the list z, by its
+// number there.
+#[derive(Clone, Copy)]
+pub enum Form {
+    OfRequest,
+    BadVerb,
+    BadArgument,
+    Nothing,
+    Refused,
+    RefusedOutput,
+    Value,
+    NothingKept,
+    Unopened,
+    Unwritten,
+    Unread,
+    LongFile,
+    LongLine,
+    CrLine,
+}
+
+// An answer: by which row it is put, the numbers of its words, and the place of the values that stand
+// behind these.
+#[derive(Clone, Copy)]
+pub struct Answer {
+    pub form: Form,
+    pub numbers: Numbers,
+    pub values: Place,
+}
+
+pub fn of(a: u32, b: u32, c: u32, d: u32) -> Answer {
+    let mut numbers = [0; 32];
+    numbers[0] = a;
+    numbers[1] = b;
+    numbers[2] = c;
+    numbers[3] = d;
+    of_numbers(numbers)
+}
+
+pub fn of_numbers(numbers: Numbers) -> Answer {
+    Answer {
+        form: Form::OfRequest,
+        numbers,
+        values: place(0, 0),
     }
 }
 
-// The numbers of an answer's words.
-pub type Answer = [u32; 32];
-
-// Where an answer has the place of the values that stand behind its words, and the number of its row
-// in the list z, 0 for the request's own row.
-pub const VALUES: usize = 29;
-
-pub const VALUES_LEN: usize = 30;
-
-pub const FORM: usize = 31;
-
-// Some rows of the list z.
-const NONE: u32 = 3;
-
-const REFUSED: u32 = 4;
-
-const REFUSED_OUTPUT: u32 = 5;
-
-pub fn of(a: u32, b: u32, c: u32, d: u32) -> Answer {
-    let mut n = [0; 32];
-    n[0] = a;
-    n[1] = b;
-    n[2] = c;
-    n[3] = d;
-    n
-}
-
 // With three numbers behind the first four.
-pub fn with(mut n: Answer, e: u32, f: u32, g: u32) -> Answer {
-    n[4] = e;
-    n[5] = f;
-    n[6] = g;
-    n
+pub fn with(mut answer: Answer, e: u32, f: u32, g: u32) -> Answer {
+    answer.numbers[4] = e;
+    answer.numbers[5] = f;
+    answer.numbers[6] = g;
+    answer
 }
 
 pub fn number(n: u32) -> Answer {
@@ -76,51 +94,51 @@ pub fn number(n: u32) -> Answer {
 }
 
 // Put by a row of the list z.
-pub fn by(form: u32, mut n: Answer) -> Answer {
-    n[FORM] = form;
-    n
+pub fn by(form: Form, answer: Answer) -> Answer {
+    Answer { form, ..answer }
 }
 
 pub fn none() -> Answer {
-    by(NONE, number(0))
+    by(Form::Nothing, number(0))
 }
 
-pub fn refused(k: u8) -> Answer {
-    by(REFUSED, number(k as u32))
+pub fn refused(refusal: impl Into<u8>) -> Answer {
+    let number_of: u8 = refusal.into();
+    by(Form::Refused, number(u32::from(number_of)))
 }
 
 // Of a function that writes: the whole output follows.
-pub fn written(answer: Written) -> Answer {
+pub fn written(answer: Result<usize, Refusal>) -> Answer {
     match answer {
-        Written::Bytes(n) => number(low(n)),
-        Written::Refused(k) => with_output(refused(k)),
+        Ok(n) => number(low(n)),
+        Err(k) => with_output(refused(k)),
     }
 }
 
 pub fn with_output(answer: Answer) -> Answer {
-    if answer[FORM] == REFUSED {
-        return by(REFUSED_OUTPUT, answer);
+    match answer.form {
+        Form::Refused => by(Form::RefusedOutput, answer),
+        _ => answer,
     }
-    answer
 }
 
-pub fn done(answer: Done) -> Answer {
+pub fn done(answer: Result<(), Refusal>) -> Answer {
     match answer {
-        Done::Done => number(0),
-        Done::Refused(k) => refused(k),
+        Ok(()) => number(0),
+        Err(k) => refused(k),
     }
 }
 
 pub fn low(n: usize) -> u32 {
-    (n % 0x1_0000_0000) as u32
+    (n & 0xffff_ffff) as u32
 }
 
 pub fn byte(n: u32) -> u8 {
-    (n % 256) as u8
+    (n & 0xff) as u8
 }
 
 pub fn half(n: u32) -> u16 {
-    (n % 65536) as u16
+    (n & 0xffff) as u16
 }
 
 pub fn place(start: u32, len: u32) -> Place {
@@ -132,7 +150,7 @@ pub fn place(start: u32, len: u32) -> Place {
 
 // The first so many bytes, or all of them.
 pub fn head(bytes: &[u8], n: u32) -> &[u8] {
-    octets::part(bytes, place(0, n))
+    bytes.get(..n as usize).unwrap_or(bytes)
 }
 
 // What stands from a place on, or all.

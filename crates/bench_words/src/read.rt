@@ -1,9 +1,8 @@
 // A request read by the table: its words as numbers, and the bytes that it holds.
-ghost use Rattle.std.specs.Prelude.{◌≤◌, length};
+ghost use Rattle.std.specs.Prelude.{◌≤◌};
 
 use crate::table::*;
 use crate::*;
-use octets::Written;
 use octets::number::byte;
 use text::*;
 
@@ -19,227 +18,184 @@ pub const SECOND_BYTES: u32 = 1024;
 // What is added to the number of a verb of the processor.
 pub const DEVICE_VERBS: usize = 1000;
 
-// The number that `@` goes on with.
-pub const SECOND_RECORD: usize = 20;
-
-// Rows of the list z.
-const BAD_VERB: u32 = 1;
-
-const BAD_ARGUMENT: u32 = 2;
-
-const LONG_LINE: u32 = 12;
-
-const CR_LINE: u32 = 13;
-
-// A request: the number of its verb, 0 where it is bad, and its numbers are then what is answered;
-// where the words of its answer stand in the table, and how much output it asks for. And how far it is
-// read: where in its row and in its line, which of its words is next, where that one's bytes go, and how
-// many numbers there are.
+// A request: the number of its verb, its numbers, how much output it asks for, and where the words of its
+// answer stand in the table.
 #[derive(Clone, Copy)]
-pub struct Words {
+pub struct Request {
     pub verb: usize,
-    pub answer: usize,
+    pub numbers: Numbers,
     pub room: usize,
-    pub numbers: Answer,
+    pub answer: usize,
+}
+
+// A request, and how far it is read: where in its row, what is left of its line, which of its words is
+// next, where that one's bytes go, and how many numbers there are.
+#[derive(Clone, Copy)]
+struct Reading<'a> {
+    request: Request,
     walk: Walk,
-    at: usize,
+    rest: &'a [u8],
     word: u32,
     place: usize,
     count: usize,
 }
 
-// Reads a request, and puts its bytes into `bytes`. A line that is too long has lost its start.
-pub fn read(line: &[u8], long: bool, bytes: &mut [u8]) -> Words {
+// Reads a request, and puts its bytes into `bytes`; or answers why it is none. A line that is too long has
+// lost its start.
+pub fn read(line: &[u8], long: bool, bytes: &mut [u8]) -> Result<Request, Answer> {
     // a function that names the table is dear to check: the others are lent it
     read_in(&TABLE, line, long, bytes)
 }
 
-fn read_in(table: &[u8], line: &[u8], long: bool, bytes: &mut [u8]) -> Words {
+fn read_in(table: &[u8], line: &[u8], long: bool, bytes: &mut [u8]) -> Result<Request, Answer> {
     if long {
-        return begun(0, 0, LONG_LINE, 0);
+        return Err(by(Form::LongLine, number(0)));
     }
-    if 0 < line.len() && line[line.len() - 1] == b'\r' {
-        return begun(0, 0, CR_LINE, 0);
+    if line.ends_with(b"\r") {
+        return Err(by(Form::CrLine, number(0)));
     }
-    let row = verb_row(table, first(line));
-    read_words(
-        table,
-        begun(row.number, row.words, BAD_VERB, word_end(line)),
-        line,
-        bytes,
-    )
+    let (verb, rest) = next_word(line);
+    let row = verb_row(table, verb).ok_or(by(Form::BadVerb, number(0)))?;
+    read_words(table, begun(row, rest), bytes)
 }
 
-fn read_words(table: &[u8], begun: Words, line: &[u8], bytes: &mut [u8]) -> Words {
-    let mut words = begun;
-    let mut steps = 0;
-    while steps < MOST_STEPS {
-        words = one_more(table, words, line, bytes);
-        steps += 1;
+fn read_words(table: &[u8], begun: Reading, bytes: &mut [u8]) -> Result<Request, Answer> {
+    let mut reading = begun;
+    for _ in 0..MOST_STEPS {
+        let Some(walk) = reading.walk.next(table) else {
+            break;
+        };
+        reading.walk = walk;
+        reading.take_word(table, bytes)?;
     }
-    words
+    Ok(reading.request)
 }
 
 // A verb's row, with its number over both lists.
-fn verb_row(table: &[u8], word: &[u8]) -> Row {
-    let row = find(table, b'd', 0, word);
-    if row.number == 0 {
-        return find(table, b'a', 0, word);
-    }
-    Row {
-        number: row.number % DEVICE_VERBS + DEVICE_VERBS,
-        ..row
+fn verb_row(table: &[u8], word: &[u8]) -> Option<Row> {
+    match named(table, b'd', word) {
+        Some(row) => Some(Row {
+            number: DEVICE_VERBS + row.number,
+            ..row
+        }),
+        None => named(table, b'a', word),
     }
 }
 
-// Where there is no verb, nothing is read and `bad` is answered.
-fn begun(verb: usize, row: usize, bad: u32, at: usize) -> Words {
-    let walk = walk_from(row);
-    let numbers = by(bad, number(0));
-    Words {
-        verb,
-        answer: 0,
-        room: 0,
-        numbers,
-        walk,
-        at,
+fn begun(row: Row, rest: &[u8]) -> Reading {
+    Reading {
+        request: Request {
+            verb: row.number,
+            numbers: [0; 32],
+            room: 0,
+            answer: 0,
+        },
+        walk: walk_from(row.words),
+        rest,
         word: 1,
         place: 0,
         count: 0,
     }
 }
 
-// Reads one word more; once all are read, or one is bad, the table has no more.
-fn one_more(table: &[u8], mut words: Words, line: &[u8], bytes: &mut [u8]) -> Words {
-    let walk = words.walk;
-    let next = walk.next(table);
-    let word = next.word;
-    if word.len == 0 {
-        return words;
+impl Reading<'_> {
+    // Takes what the word of the table says that the walk has come to.
+    fn take_word(&mut self, table: &[u8], bytes: &mut [u8]) -> Result<(), Answer> {
+        match byte(table, self.walk.word.start) {
+            b'>' => {
+                self.request.answer = self.walk.passed;
+                self.walk = self.walk.leave();
+            }
+            b'_' => self.push(0),
+            b'@' => self.count = SECOND_PART,
+            b'!' => {
+                self.request.room = 1024;
+                self.push(0);
+            }
+            letter => return self.read_word(table, letter, bytes),
+        }
+        Ok(())
     }
-    words.walk = next;
-    match byte(table, word.start) {
-        b'>' => answered_at(words, next.leave(), next.passed),
-        b'_' => with_number(words, 0),
-        b'@' => Words {
-            count: SECOND_RECORD,
-            ..words
-        },
-        b'!' => with_number(with_room(words, 1024), 0),
-        letter => one_word(table, words, letter, line, bytes),
-    }
-}
 
-fn answered_at(mut words: Words, walk: Walk, answer: usize) -> Words {
-    words.walk = walk;
-    words.answer = answer;
-    words
-}
-
-fn with_room(mut words: Words, room: usize) -> Words {
-    words.room = room;
-    words
-}
-
-// At a word that is not what its letter says, nothing more is read.
-fn stopped(mut words: Words, letter: u8) -> Words {
-    let walk = walk_from(0);
-    let numbers = by(BAD_ARGUMENT, of(words.word, letter as u32, 0, 0));
-    words.walk = walk;
-    words.numbers = numbers;
-    words.verb = 0;
-    words
-}
-
-// With one number more.
-fn with_number(mut words: Words, number: u32) -> Words {
-    let n = words.count;
-    if n < 32 {
-        words.numbers[n] = number;
-        words.count = n + 1;
+    // Reads a word of the line by its letter.
+    fn read_word(&mut self, table: &[u8], letter: u8, bytes: &mut [u8]) -> Result<(), Answer> {
+        let (word, rest) = next_word(self.rest);
+        let bad = by(Form::BadArgument, of(self.word, u32::from(letter), 0, 0));
+        let got = word_by(table, letter, word, from_place(bytes, self.place)).ok_or(bad)?;
+        if let Some(words) = got.row {
+            self.walk = self.walk.into_row(words);
+        }
+        self.rest = rest;
+        self.word = self.word.saturating_add(1);
+        match letter {
+            b'r' => self.request.room = got.number as usize,
+            b'q' => self.request.room = got.number as usize * 4,
+            b'x' => self.place = SECOND_BYTES as usize,
+            _ => (),
+        }
+        self.push(got.number);
+        Ok(())
     }
-    words
-}
 
-fn one_word(table: &[u8], words: Words, letter: u8, line: &[u8], bytes: &mut [u8]) -> Words {
-    let at = words.at;
-    if line.len() < at {
-        return words;
+    // With one number more.
+    fn push(&mut self, number: u32) {
+        if self.count < 32 {
+            self.request.numbers[self.count] = number;
+            self.count += 1;
+        }
     }
-    let rest = &line[at..];
-    let got = word_by(table, letter, first(rest), from_place(bytes, words.place));
-    behind_word(words, letter, got, at + word_end(rest))
-}
-
-fn behind_word(mut words: Words, letter: u8, got: Got, end: usize) -> Words {
-    if !got.good {
-        return stopped(words, letter);
-    }
-    let walk = words.walk;
-    let next = walk.into_row(got.row);
-    words.walk = next;
-    words.at = end;
-    if words.word < 64 {
-        words.word += 1;
-    }
-    match letter {
-        b'r' => words.room = got.number as usize,
-        b'q' => words.room = got.number as usize * 4,
-        b'x' => words.place = SECOND_BYTES as usize,
-        _ => (),
-    }
-    with_number(words, got.number)
 }
 
 // What a word is by its letter: a number, and where it is a name, where the words of its row begin.
 #[derive(Clone, Copy)]
 struct Got {
-    good: bool,
     number: u32,
-    row: usize,
+    row: Option<usize>,
 }
 
-fn word_by(table: &[u8], letter: u8, word: &[u8], bytes: &mut [u8]) -> Got {
+fn word_by(table: &[u8], letter: u8, word: &[u8], bytes: &mut [u8]) -> Option<Got> {
     match letter {
-        b'x' => of_number(bytes_of(word, 2, bytes), 0xffff_ffff),
-        b'p' => of_number(bytes_of(word, 4, bytes), 0xffff_ffff),
-        b'w' => of_number(read_word(word), 0xffff_ffff),
-        b't' => of_number(read_bit(word), 1),
-        b'v' => of_verb(table, word),
-        b'f' => of_number(name_of(word, bytes), 0xffff_ffff),
-        b'A'..=b'Z' => of_name(table, letter, word),
-        _ => of_number(read_decimal(word), bound(letter)),
+        b'A'..=b'Z' => {
+            let row = named(table, letter, word)?;
+            Some(Got {
+                number: low(row.number),
+                row: Some(row.words),
+            })
+        }
+        _ => {
+            let number = number_by(table, letter, word, bytes)?;
+            Some(Got { number, row: None })
+        }
     }
 }
 
-fn found(good: bool, number: u32, row: usize) -> Got {
-    Got { good, number, row }
-}
-
-fn of_name(table: &[u8], list: u8, word: &[u8]) -> Got {
-    let row = find(table, list, 0, word);
-    found(0 < row.number, low(row.number), row.words)
-}
-
-fn of_number(read: Number, most: u32) -> Got {
-    match read {
-        Number::Is(n) => found(n <= most, n, 0),
-        Number::Bad => found(false, 0, 0),
+fn number_by(table: &[u8], letter: u8, word: &[u8], bytes: &mut [u8]) -> Option<u32> {
+    match letter {
+        b'x' => bytes_of(word, 2, bytes),
+        b'p' => bytes_of(word, 4, bytes),
+        b'w' => read_word(word),
+        b't' => bit_of(word),
+        b'v' => verb_of(table, word),
+        b'f' => name_of(word, bytes),
+        _ => read_decimal(word).filter(|n| *n <= bound(letter)),
     }
 }
 
 // A verb's number, and 0 for no word.
-fn of_verb(table: &[u8], word: &[u8]) -> Got {
-    let row = verb_row(table, word);
-    found(0 < row.number || word.len() == 0, low(row.number), 0)
+fn verb_of(table: &[u8], word: &[u8]) -> Option<u32> {
+    if word.is_empty() {
+        return Some(0);
+    }
+    verb_row(table, word).map(|row| low(row.number))
 }
 
 // One digit alone.
-fn read_bit(word: &[u8]) -> Number {
-    if word.len() != 1 {
-        return Number::Bad;
+fn bit_of(word: &[u8]) -> Option<u32> {
+    match word {
+        b"0" => Some(0),
+        b"1" => Some(1),
+        _ => None,
     }
-    read_decimal(word)
 }
 
 fn bound(letter: u8) -> u32 {
@@ -254,43 +210,34 @@ fn bound(letter: u8) -> u32 {
 }
 
 // The bytes of a word, which come so many digits at a time; `-` is none.
-fn bytes_of(word: &[u8], digits: usize, bytes: &mut [u8]) -> Number
+fn bytes_of(word: &[u8], digits: usize, bytes: &mut [u8]) -> Option<u32>
     requires { 1 ≤ digits }
 {
-    if same(word, b"-") {
-        return Number::Is(0);
+    if matches!(word, b"-") {
+        return Some(0);
     }
-    if word.len() == 0 || LONGEST_WORD < word.len() || word.len() % digits != 0 {
-        return Number::Bad;
+    if word.is_empty() || LONGEST_WORD < word.len() || word.len() % digits != 0 {
+        return None;
     }
     match read_pairs(word, bytes) {
-        Pairs::Bytes(n) => Number::Is(low(n)),
-        Pairs::Bad => Number::Bad,
+        Some(n) => Some(low(n)),
+        None => None,
     }
 }
 
 // A name as it stands.
-fn name_of(word: &[u8], bytes: &mut [u8]) -> Number {
-    if word.len() == 0 {
-        return Number::Bad;
+fn name_of(word: &[u8], bytes: &mut [u8]) -> Option<u32> {
+    if word.is_empty() {
+        return None;
     }
     match octets::put(word, bytes) {
-        Written::Bytes(n) => Number::Is(low(n)),
-        Written::Refused(_) => Number::Bad,
+        Ok(n) => Some(low(n)),
+        Err(_) => None,
     }
 }
 
-// The first word of a line, and where it ends.
-fn first(line: &[u8]) -> &[u8] {
-    let start = run(line, b' ');
-    let word = &line[start..];
-    let end = until(word, b' ');
-    &word[0..end]
-}
-
-fn word_end(line: &[u8]) -> usize
-    ensures { result ≤ length line.now }
-{
-    let start = run(line, b' ');
-    start + until(&line[start..], b' ')
+// The first word of a line, and what stands behind it.
+fn next_word(line: &[u8]) -> (&[u8], &[u8]) {
+    let behind = &line[run(line, b' ')..];
+    behind.split_at(until(behind, b' '))
 }

@@ -20,7 +20,7 @@
 //   p a place in the bytes of the request, and what stands there   ; the end, where the next number is 0
 //   o NUMBER, f WORD: one less than its number, and none for 0   : NUMBER and a colon
 //   e, i the text of that list   v the words of a verb, and for 0 all verbs
-ghost use Rattle.std.specs.Prelude.{◌≤◌, length};
+ghost use Rattle.std.specs.Prelude.{IfSome, ◌≡◌, ◌≤◌, length};
 
 use octets::Place;
 use octets::number::byte;
@@ -198,15 +198,29 @@ pub struct Row {
     pub words: usize,
 }
 
-// The first name of a list that has this number or is this one, and number 0 where there is none: no
-// name has number 0, and none is empty.
-pub fn find(table: &[u8], list: u8, number: usize, name: &[u8]) -> Row {
+// A list's name.
+pub fn named(table: &[u8], list: u8, name: &[u8]) -> Option<Row>
+    ensures { IfSome result (λ row. row.number ≤ length table.now) }
+{
+    find(table, list, |_, one| one == name)
+}
+
+// The name of a number.
+pub fn numbered(table: &[u8], list: u8, number: usize) -> Option<Row>
+    ensures { IfSome result (λ row. row.number ≤ length table.now) }
+{
+    find(table, list, |count, _| count == number)
+}
+
+// The first name of a list that is sought, by its number and itself.
+fn find<F: Fn(usize, &[u8]) -> bool>(table: &[u8], list: u8, is_sought: F) -> Option<Row>
+    requires { F.IsAlwaysCallable is_sought }
+    ensures { IfSome result (λ row. row.number ≤ length table.now) }
+{
     let mut row = 0;
     let mut start = 1;
     let mut count = 0;
-    let mut turns = table.len();
-    while 0 < turns {
-        turns -= 1;
+    for _turn in 0..table.len() {
         if table.len() <= start {
             break;
         }
@@ -217,10 +231,10 @@ pub fn find(table: &[u8], list: u8, number: usize, name: &[u8]) -> Row {
             continue;
         }
         let all = word_len(rest);
-        let one = text::until(&rest[0..all], b'|');
+        let one = text::until(&rest[..all], b'|');
         count += 1;
-        if count == number || same(name, &rest[0..one]) {
-            return row_of(count, start + 1, one, start + 1 + all);
+        if is_sought(count, &rest[..one]) {
+            return Some(row_of(count, start + 1, one, start + 1 + all));
         }
         start += 1 + one;
         if one == all {
@@ -228,14 +242,15 @@ pub fn find(table: &[u8], list: u8, number: usize, name: &[u8]) -> Row {
             start = row + 1;
         }
     }
-    row_of(0, 0, 0, 0)
+    None
 }
 
-fn row_of(number: usize, start: usize, len: usize, words: usize) -> Row {
-    let name = Place { start, len };
+fn row_of(number: usize, start: usize, len: usize, words: usize) -> Row
+    ensures { result.number ≡ number }
+{
     Row {
         number,
-        name,
+        name: Place { start, len },
         words,
     }
 }
@@ -245,25 +260,11 @@ pub fn word_len(text: &[u8]) -> usize
     ensures { result ≤ length text.now }
 {
     let line = text::until(text, b'\n');
-    text::until(&text[0..line], b' ')
+    text::until(&text[..line], b' ')
 }
 
-pub fn same(a: &[u8], b: &[u8]) -> bool {
-    if a.len() != b.len() {
-        return false;
-    }
-    let mut i = 0;
-    while i < a.len() {
-        if a[i] != b[i] {
-            return false;
-        }
-        i += 1;
-    }
-    true
-}
-
-// A walk through a row and, at a name, through that one's: the word that it is at, of no length at
-// its end, what it has passed of its row, and of the rows in which that stands.
+// A walk through a row and, at a name, through that one's: the word that it is at, what it has passed of
+// its row, and of the rows in which that stands, 0 where there is none.
 #[derive(Clone, Copy)]
 pub struct Walk {
     pub word: Place,
@@ -274,65 +275,71 @@ pub struct Walk {
 
 // The walk through the words behind a place in a row.
 pub fn walk_from(passed: usize) -> Walk {
-    walk_at(crate::place(0, 0), passed, 0, 0)
-}
-
-fn walk_at(word: Place, passed: usize, above: usize, top: usize) -> Walk {
     Walk {
-        word,
+        word: crate::place(0, 0),
         passed,
-        above,
-        top,
+        above: 0,
+        top: 0,
     }
 }
 
 impl Walk {
-    // Goes on behind a name in its row, and then where it is; 0 is no row.
+    // Goes on behind a name in its row, and then where it is.
     pub fn into_row(self, words: usize) -> Walk {
-        if words == 0 {
-            return self;
+        Walk {
+            passed: words,
+            above: self.passed,
+            top: self.above,
+            ..self
         }
-        let word = self.word;
-        walk_at(word, words, self.passed, self.above)
     }
 
     // Leaves its row for the one in which that stands.
     pub fn leave(self) -> Walk {
-        let word = self.word;
-        walk_at(word, self.above, self.top, 0)
+        Walk {
+            passed: self.above,
+            above: self.top,
+            top: 0,
+            ..self
+        }
     }
 
-    // Goes on to the next word.
-    pub fn next(self, table: &[u8]) -> Walk {
+    // Goes on to the next word, where there is one.
+    pub fn next(self, table: &[u8]) -> Option<Walk> {
         if byte(table, self.passed) == b' ' {
-            return behind(table, self.passed, self.above, self.top);
+            self.at_word(table)
+        } else if byte(table, self.above) == b' ' {
+            self.leave().at_word(table)
+        } else if byte(table, self.top) == b' ' {
+            self.leave().leave().at_word(table)
+        } else {
+            None
         }
-        if byte(table, self.above) == b' ' {
-            return behind(table, self.above, self.top, 0);
-        }
-        if byte(table, self.top) == b' ' {
-            return behind(table, self.top, 0, 0);
-        }
-        walk_from(0)
     }
-}
 
-// At the word behind a space.
-fn behind(table: &[u8], space: usize, above: usize, top: usize) -> Walk {
-    if table.len() <= space {
-        return walk_from(0);
+    // At the word behind the space that it has come to.
+    fn at_word(self, table: &[u8]) -> Option<Walk> {
+        if table.len() <= self.passed {
+            return None;
+        }
+        let start = self.passed + 1;
+        let len = word_len(&table[start..]);
+        if len == 0 {
+            return None;
+        }
+        Some(Walk {
+            word: Place { start, len },
+            passed: start + len,
+            ..self
+        })
     }
-    let start = space + 1;
-    let len = word_len(&table[start..]);
-    walk_at(Place { start, len }, start + len, above, top)
 }
 
 // The text of a row behind its name.
 pub fn text_at(table: &[u8], words: usize) -> &[u8] {
     if table.len() <= words {
-        return &table[0..0];
+        return &[];
     }
     let rest = &table[words + 1..];
-    let end = text::until(rest, b'\n');
-    &rest[0..end]
+    &rest[..text::until(rest, b'\n')]
 }

@@ -1,19 +1,16 @@
 -- Each public function's contract fixes its answer and what it leaves.
+use Rattle.std.specs.Prelude.{Result}
+use Rattle.octets.specs.declared.refusal.Refusal.{Refusal}
 use Prim.Native.Nat.{ℕ}
 use mathlib.Core.Path.{◌≡◌}
 use mathlib.Core.List.{List}
-use Rattle.octets.specs.Outcome.{written}
-use Rattle.octets.specs.declared.Written.{Written}
+use Rattle.octets.specs.Outcome.{outcome}
 use Rattle.octets.proofs.Agree.{Fixes, agree, both}
-use Rattle.octets.proofs.Determined.{written_once}
+use Rattle.octets.proofs.Determined.{outcome_once}
 use Rattle.fields.specs.declared.addr.Addr.{Addr}
-use Rattle.fields.specs.declared.value.Coefficient.{Coefficient}
 use Rattle.fields.specs.declared.value.Value.{Value}
-use Rattle.commands.specs.Decode.{read_command}
 use Rattle.commands.specs.declared.Commands.{Commands}
 use Rattle.commands.specs.declared.decode.Decoded.{Decoded}
-use Rattle.commands.specs.declared.decode.ReadCommand.{ReadCommand}
-use Rattle.commands.specs.declared.decode.ReadCommand.TheVariants.{Command, Refused}
 use Rattle.commands.specs.declared.dialect.Dialect.{Dialect}
 use Rattle.commands.proofs.Commands.from_bytes.Reads as from_bytes
 use Rattle.commands.proofs.Commands.to_bytes.Reads as to-bytes
@@ -31,28 +28,21 @@ use Rattle.commands.specs.declared.dialect.AddrEncoding.{AddrEncoding}
 use Rattle.commands.specs.declared.dialect.FloatEncoding.{FloatEncoding}
 use Rattle.commands.proofs.read_floats_max.Reads as read-floats-max
 use Rattle.commands.proofs.write_ints.Reads as write-ints
-use Rattle.commands.proofs.dialect.AddrEncoding.default.Reads as addr-encoding
-use Rattle.commands.proofs.dialect.FloatEncoding.default.Reads as float-encoding
-
--- an answer is known by its reading
-pub command-once : (a b : ReadCommand) → read_command a ≡ read_command b → a ≡ b
-command-once (Command c) (Command d) e = cc
-command-once (Command c) (Refused k) e = cc
-command-once (Refused k) (Command d) e = cc
-command-once (Refused j) (Refused k) e = cc
+use Rattle.commands.proofs.dialect.AddrEncodingDefault.default.Reads as addr-encoding
+use Rattle.commands.proofs.dialect.FloatEncodingDefault.default.Reads as float-encoding
 
 pub from-bytes-fixed : Fixes Decoded from_bytes.Post (λ κs answer left. answer)
 from-bytes-fixed κs args a b x y p q =
-    let read : a.answer ≡ b.answer = command-once a.answer b.answer (agree p.0 q.0) in
+    let read : a.answer ≡ b.answer = outcome_once a.answer b.answer (agree p.0 q.0) in
     λ i. record { answer = read i; values = agree p.1 q.1 i }
 
-pub to-bytes-fixed : Fixes (Written × List ℕ) to-bytes.Post (λ κs answer left. (answer, left.1.1.1.0.now))
-to-bytes-fixed κs args a b x y p q = both written written_once (agree p q)
+pub to-bytes-fixed : Fixes (Result ℕ Refusal × List ℕ) to-bytes.Post (λ κs answer left. (answer, left.1.1.1.0.now))
+to-bytes-fixed κs args a b x y p q = both outcome outcome_once (agree p q)
 
-pub to-frame-fixed : Fixes (Written × List ℕ) to-frame.Post (λ κs answer left. (answer, left.1.1.1.0.now))
-to-frame-fixed κs args a b x y p q = both written written_once (agree p q)
+pub to-frame-fixed : Fixes (Result ℕ Refusal × List ℕ) to-frame.Post (λ κs answer left. (answer, left.1.1.1.0.now))
+to-frame-fixed κs args a b x y p q = both outcome outcome_once (agree p q)
 
-pub no-values-fixed : Fixes (List Coefficient) no-values.Post (λ κs answer left. answer)
+pub no-values-fixed : Fixes (List Value) no-values.Post (λ κs answer left. answer)
 no-values-fixed κs args a b x y p q = agree p q
 
 pub mute-fixed : Fixes Commands mute.Post (λ κs answer left. answer)

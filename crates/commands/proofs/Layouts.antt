@@ -27,7 +27,6 @@ use Rattle.fields.specs.declared.addr.Addr.{Addr}
 use Rattle.fields.specs.declared.row.Field.{Field}
 use Rattle.fields.specs.declared.row.Field.TheVariants.{Byte, Word, Address, Coded, Payload, Floats}
 use Rattle.fields.specs.declared.value.Value.{Value}
-use Rattle.fields.specs.declared.value.Coefficient.{Coefficient}
 use Rattle.fields.proofs.Addrs.{by_length, length-addr}
 use Rattle.fields.proofs.Rows.{sound-of}
 use Rattle.fields.proofs.Settled.{Written}
@@ -43,10 +42,10 @@ word_back k n t h = big-behind (k ∷ []) (big_bytes 2 n ++ t) 2 0 ∙ big-back 
 part_length : (p : List ℕ) (place : Place) → is_outside place (length p) ≡ false → length (part_of p place ++ []) ≡ place.len
 part_length p place h = rw append-nil (length_part p place (was-inside place (length p) h))
 
-fours : (p : List ℕ) (values : List Coefficient) → FourEach p values → length (packet_of p (values_of values)) ≡ length values * 4
+fours : (p : List ℕ) (values : List Value) → FourEach p values → length (packet_of p (values_of values)) ≡ length values * 4
 unfolding packet_of
 fours p [] u = refl
-fours p (c ∷ cs) u = rw (length-append, u.0, fours p cs u.1) (omega arith)
+fours p (v ∷ vs) u = rw (length-append, u.0, fours p vs u.1) (omega arith)
 
 -- an address behind the command byte, and what stands behind it
 record Headed (a : Addr) (bytes tail : List ℕ) : Type 0 where
@@ -148,7 +147,7 @@ module _ (p packet : List ℕ) where
         by_kind 0x29 (Address a ∷ fs) w ∙ rw (here, h.behind 0 3 (omega arith), h.behind 1 4 (omega arith)) (sym (above _ _ _ _ _ (omega arith) refl))
 
     -- ---- with the five values
-    module _ (values : List Coefficient) (five : length values ≡ 5) (u : FourEach p values) (w : Written p (Byte 0x30 ∷ Address a ∷ Word 0 ∷ values_of values) packet) where
+    module _ (values : List Value) (five : length values ≡ 5) (u : FourEach p values) (w : Written p (Byte 0x30 ∷ Address a ∷ Word 0 ∷ values_of values) packet) where
       biquad-width : (length (0x30 ∷ packet_of p (Address a ∷ Word 0 ∷ values_of values)) ≡ a.len + 23) × (width_if (ltb 24 (length (0x30 ∷ packet_of p (Address a ∷ Word 0 ∷ values_of values)) - 1)) ≡ a.len)
       unfolding packet_of big_bytes
       biquad-width =

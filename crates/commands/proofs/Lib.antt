@@ -1,4 +1,3 @@
-pub mod Five
 pub mod Determined
 pub mod Layouts
 pub mod RoundTrip

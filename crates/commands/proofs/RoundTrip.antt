@@ -26,12 +26,11 @@ use Rattle.fields.specs.declared.row.Field.{Field}
 use Rattle.fields.specs.declared.row.Field.TheVariants.{Byte, Word, Address, Coded, Payload, Floats}
 use Rattle.fields.specs.declared.value.Value.{Value}
 use Rattle.fields.specs.declared.value.Value.TheVariants.{Int}
-use Rattle.fields.specs.declared.value.Coefficient.{Coefficient}
 use Rattle.fields.proofs.Addrs.{length-addr}
 use Rattle.fields.proofs.Rows.{sound-of, stands, packet-append}
 use Rattle.fields.proofs.Settled.{Written, was-written}
 use Rattle.fields.proofs.Back.{cut-whole, int-back}
-use Rattle.commands.specs.Decode.{command_of, command_by, is_set, gain_of, values_at, no_values, five_from, coefficient}
+use Rattle.commands.specs.Decode.{command_of, command_by, is_set, gain_of, values_at, no_values, five_from}
 use Rattle.commands.specs.Encode.{command_row, mux_byte, values_of}
 use Rattle.commands.specs.RoundTrip.{back, Readable, FourEach}
 use Rattle.commands.specs.declared.Commands.{Commands}
@@ -47,18 +46,18 @@ mux max true = (omega arith, le-leb 128 (128 + max % 128) (omega arith))
 mux max false = (refl, refl)
 
 -- what stands past the end of a list of values
-abbrev pub no_value : Coefficient
-no_value = coefficient (Int 0)
+abbrev pub no_value : Value
+no_value = Int 0
 
-nth : (p : List ℕ) (values : List Coefficient) → FourEach p values → (i : ℕ) → i < length values → part_of (packet_of p (values_of values)) (place_at (i * 4) 4) ≡ value_bytes (get_or values i no_value).value p
+nth : (p : List ℕ) (values : List Value) → FourEach p values → (i : ℕ) → i < length values → part_of (packet_of p (values_of values)) (place_at (i * 4) 4) ≡ value_bytes (get_or values i no_value) p
 unfolding packet_of
 nth p [] u i h = absurd (omega arith)
-nth p (c ∷ cs) u zero h = part-between [] (value_bytes c.value p) (packet_of p (values_of cs)) 0 4 refl (sym u.0)
-nth p (c ∷ cs) u (suc i) h =
-    let e : suc i * 4 ≡ length (value_bytes c.value p) + i * 4 = omega (arith, u.0) in
-    rw e (part-behind (value_bytes c.value p) (packet_of p (values_of cs)) (i * 4) 4 ∙ nth p cs u.1 i (le_of_suc-le-suc h))
+nth p (v ∷ vs) u zero h = part-between [] (value_bytes v p) (packet_of p (values_of vs)) 0 4 refl (sym u.0)
+nth p (v ∷ vs) u (suc i) h =
+    let e : suc i * 4 ≡ length (value_bytes v p) + i * 4 = omega (arith, u.0) in
+    rw e (part-behind (value_bytes v p) (packet_of p (values_of vs)) (i * 4) 4 ∙ nth p vs u.1 i (le_of_suc-le-suc h))
 
-module _ (p : List ℕ) (values : List Coefficient) (packet : List ℕ) where
+module _ (p : List ℕ) (values : List Value) (packet : List ℕ) where
   reads : (c : Commands) → Readable p values c → Written p (command_row c values) packet → command_of packet ≡ accepted (back p c)
   unfolding packet_of command_by if_eq if_lt big_bytes
   reads ReadHardwareId u w = by_kind p packet _ _ w
@@ -133,7 +132,7 @@ module _ (p : List ℕ) (values : List Coefficient) (packet : List ℕ) where
 
   -- the five values of a biquad stand beside the command that comes back, each where its bytes stand
   pub values-kept : (addr : Addr) → Readable p values (WriteBiquad addr) → encoded_of p (command_row (WriteBiquad addr) values) ≡ accepted packet
-      → (values_at packet ≡ five_from (addr.len + 3)) × ((i : ℕ) → i < 5 → part_of packet (place_at (addr.len + 3 + i * 4) 4) ≡ value_bytes (get_or values i no_value).value p)
+      → (values_at packet ≡ five_from (addr.len + 3)) × ((i : ℕ) → i < 5 → part_of packet (place_at (addr.len + 3 + i * 4) 4) ≡ value_bytes (get_or values i no_value) p)
   unfolding packet_of big_bytes
   values-kept addr u e =
       let w = was-written p (command_row (WriteBiquad addr) values) packet e in

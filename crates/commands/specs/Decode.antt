@@ -1,5 +1,5 @@
 -- What a packet reads as, as document 01 has it under "Commands and responses", in the order of `Commands::from_bytes`.
-use Rattle.std.specs.Prelude.{ℕ, ◌+◌, ◌-◌, ◌*◌, ◌/◌, ◌%◌, Bool, true, false, not, List, [], ◌∷◌, leb, ltb, eqb, length}
+use Rattle.std.specs.Prelude.{ℕ, ◌+◌, ◌-◌, ◌/◌, ◌%◌, Bool, not, List, [], ◌∷◌, leb, ltb, eqb, length}
 use Rattle.std.specs.Float.{binary32}
 use Rattle.std.specs.Float.Ieee.{of_bits}
 use Rattle.octets.specs.Refusals.{ends, few_values, too_long}
@@ -14,15 +14,8 @@ use Rattle.fields.specs.Addr.{width_if, addr_at}
 use Rattle.fields.specs.Value.{value_at}
 use Rattle.fields.specs.declared.value.Value.{Value}
 use Rattle.fields.specs.declared.value.Value.TheVariants.{Float, Unknown as UnknownValue}
-use Rattle.fields.specs.declared.value.Coefficient.{Coefficient}
 use Rattle.commands.specs.declared.Commands.{Commands}
 use Rattle.commands.specs.declared.Commands.TheVariants.{ReadHardwareId, ReadFloats, WriteMemory, ReadMemory, SetConfig, SetSource, SetMute, SetVolume, WriteBiquad, WriteBiquadBypass, Read, Write, FirLoadStart, FirLoadData, FirLoadEnd, BulkLoad, BulkLoadFilterData, Unk07, SwitchMux, Unknown}
-use Rattle.commands.specs.declared.decode.ReadCommand.{ReadCommand}
-use Rattle.commands.specs.declared.decode.ReadCommand.TheVariants.{Command, Refused}
-
-abbrev pub read_command : ReadCommand → Outcome Commands
-read_command (Command c) = accepted c
-read_command (Refused k) = refused k
 
 -- "r is the count of bytes after the command byte"
 abbrev pub r : List ℕ → ℕ
@@ -71,24 +64,20 @@ biquad_of p =
     let k = width_if (ltb 24 (r p)) in
     if_lt (length p) (k + 3) (refused ends) (if_lt (length p) (k + 23) (refused few_values) (accepted (WriteBiquad (addr_at k p 1))))
 
--- The five values of a biquad, which stand beside the command.
-abbrev pub coefficient : Value → Coefficient
-coefficient v = record { value = v }
-
--- the Rust's default: five floats of 0
-abbrev pub no_values : List Coefficient
-no_values = let zero = coefficient (Float (of_bits binary32 0)) in zero ∷ zero ∷ zero ∷ zero ∷ zero ∷ []
+-- The five values of a biquad, which stand beside the command. The Rust's default is five floats of 0.
+abbrev pub no_values : List Value
+no_values = let zero = Float (of_bits binary32 0) in zero ∷ zero ∷ zero ∷ zero ∷ zero ∷ []
 
 -- None is ever an Int: the Rust does not read these four bytes by `Value::from_bytes`, as it does 0x13's value, but copies them as
 -- `Value::Unknown`, whatever they are.
-abbrev pub unknown_at : ℕ → Coefficient
-unknown_at n = coefficient (UnknownValue (place_at n 4))
+abbrev pub unknown_at : ℕ → Value
+unknown_at n = UnknownValue (place_at n 4)
 
-abbrev pub five_from : ℕ → List Coefficient
+abbrev pub five_from : ℕ → List Value
 five_from n = unknown_at n ∷ unknown_at (n + 4) ∷ unknown_at (n + 8) ∷ unknown_at (n + 12) ∷ unknown_at (n + 16) ∷ []
 
 -- those of a 0x30 that is read, behind its address and two bytes; of any other packet the default
-unfoldable pub values_at : List ℕ → List Coefficient
+unfoldable pub values_at : List ℕ → List Value
 values_at p =
     if_lt 254 (length p) no_values
     (if_eq (at p 0) 0x30 (let k = width_if (ltb 24 (r p)) in if_lt (length p) (k + 23) no_values (five_from (k + 3))) no_values)

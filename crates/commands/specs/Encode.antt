@@ -6,7 +6,7 @@ use Rattle.numbers.specs.Gain.{gain_byte}
 use Rattle.fields.specs.Addr.{addr_of, bit}
 use Rattle.fields.specs.declared.row.Field.{Field}
 use Rattle.fields.specs.declared.row.Field.TheVariants.{Byte, Word, Address, Coded, Payload, Floats}
-use Rattle.fields.specs.declared.value.Coefficient.{Coefficient}
+use Rattle.fields.specs.declared.value.Value.{Value}
 use Rattle.commands.specs.declared.Commands.{Commands}
 use Rattle.commands.specs.declared.Commands.TheVariants.{ReadHardwareId, ReadFloats, WriteMemory, ReadMemory, SetConfig, SetSource, SetMute, SetVolume, WriteBiquad, WriteBiquadBypass, Read, Write, FirLoadStart, FirLoadData, FirLoadEnd, DiracBypass, BulkLoad, BulkLoadFilterData, Unk07, SwitchMux, Unknown}
 
@@ -15,12 +15,12 @@ abbrev pub mux_byte : ℕ → Bool → ℕ
 mux_byte max true = 128 + max % 128
 mux_byte max false = max
 
--- "`[Value; 5]`: an array of structs, each holding one value, beside the command"
-abbrev pub values_of : List Coefficient → List Field
+-- "`[Value; 5]`: an array of structs, each holding one value, beside the command": here of the values themselves, as in the Rust
+abbrev pub values_of : List Value → List Field
 values_of [] = []
-values_of (c ∷ cs) = Coded c.value ∷ values_of cs
+values_of (v ∷ vs) = Coded v ∷ values_of vs
 
-abbrev pub command_row : Commands → List Coefficient → List Field
+abbrev pub command_row : Commands → List Value → List Field
 command_row ReadHardwareId values = Byte 0x31 ∷ []
 command_row (ReadFloats addr len) values = Byte 0x14 ∷ Word addr ∷ Byte len ∷ []
 command_row (WriteMemory addr place) values = Byte 0x04 ∷ Word addr ∷ Payload place ∷ []

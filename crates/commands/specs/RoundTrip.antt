@@ -10,7 +10,7 @@ use Rattle.numbers.specs.Gain.{gain_byte}
 use Rattle.fields.specs.Addr.{addr_of, width_if}
 use Rattle.fields.specs.Value.{value_bytes}
 use Rattle.fields.specs.Back.{cut, reread, Clear}
-use Rattle.fields.specs.declared.value.Coefficient.{Coefficient}
+use Rattle.fields.specs.declared.value.Value.{Value}
 use Rattle.commands.specs.Decode.{gain_of}
 use Rattle.commands.specs.declared.Commands.{Commands}
 use Rattle.commands.specs.declared.Commands.TheVariants.{ReadHardwareId, ReadFloats, WriteMemory, ReadMemory, SetConfig, SetSource, SetMute, SetVolume, WriteBiquad, WriteBiquadBypass, Read, Write, FirLoadStart, FirLoadData, FirLoadEnd, DiracBypass, BulkLoad, BulkLoadFilterData, Unk07, SwitchMux, Unknown}
@@ -50,16 +50,16 @@ NoneOf n [] = Unit
 NoneOf n (k ∷ ks) = (n ≡ k → ⊥) × NoneOf n ks
 
 -- five values of four bytes each
-abbrev pub FourEach : List ℕ → List Coefficient → Type 0
+abbrev pub FourEach : List ℕ → List Value → Type 0
 FourEach p [] = Unit
-FourEach p (c ∷ cs) = (length (value_bytes c.value p) ≡ 4) × FourEach p cs
+FourEach p (v ∷ vs) = (length (value_bytes v p) ≡ 4) × FourEach p vs
 
 -- Which records come back so. Of any other nothing is said: it may be refused, be read as something else, or, a biquad, come back
 -- as the same record with other values, for its 20 bytes are cut into fours wherever a value ended. An address must be read in the
 -- width in which it is written: 0x02 "3-byte address if r >= 3, else 2. So r = 3 is refused with 3 and only r >= 4 is read", 0x13
 -- "3 if r >= 7, else 2", and a mux switch's is read in two bytes. The five values of a biquad must take four bytes each, an unknown
 -- command must not have the byte of a kind, and a u16 is below 2^16.
-abbrev pub Readable : List ℕ → List Coefficient → Commands → Type 0
+abbrev pub Readable : List ℕ → List Value → Commands → Type 0
 Readable p values ReadHardwareId = Unit
 Readable p values (ReadFloats addr len) = addr < 2 ^ 16
 Readable p values (WriteMemory addr place) = addr < 2 ^ 16

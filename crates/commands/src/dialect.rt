@@ -7,35 +7,35 @@ use fields::addr::Addr;
 use fields::value::Value;
 use numbers::fixed_point::FixedPoint;
 
-#[derive(Clone, Copy)]
+#[derive(Clone, Copy, Debug, PartialEq, Eq)]
 pub enum AddrEncoding {
     AddrLen2,
     AddrLen3,
 }
 
-#[derive(Clone, Copy)]
+#[derive(Clone, Copy, Debug, PartialEq, Eq)]
 pub enum FloatEncoding {
     Float32LE,
     FixedPoint,
 }
 
-impl AddrEncoding {
-    pub fn default() -> Self
+impl Default for AddrEncoding {
+    fn default() -> Self
         ensures { result ≡ initial.addr_encoding }
     {
         AddrEncoding::AddrLen3
     }
 }
 
-impl FloatEncoding {
-    pub fn default() -> Self
+impl Default for FloatEncoding {
+    fn default() -> Self
         ensures { result ≡ initial.float_encoding }
     {
         FloatEncoding::Float32LE
     }
 }
 
-#[derive(Clone, Copy)]
+#[derive(Clone, Copy, Debug, PartialEq, Eq)]
 pub struct Dialect {
     // Length of addresses sent, 3 or 2
     pub addr_encoding: AddrEncoding,
@@ -56,8 +56,7 @@ impl Dialect {
     pub fn addr(self, value: u16) -> Addr
         ensures { result ≡ addr_for self.addr_encoding value }
     {
-        let encoding = self.addr_encoding;
-        match encoding {
+        match self.addr_encoding {
             AddrEncoding::AddrLen2 => Addr::new(value, 2),
             AddrEncoding::AddrLen3 => Addr::new(value, 3),
         }
@@ -66,8 +65,7 @@ impl Dialect {
     pub fn float(self, value: f32) -> Value
         ensures { result ≡ float_for self.float_encoding value }
     {
-        let encoding = self.float_encoding;
-        match encoding {
+        match self.float_encoding {
             FloatEncoding::Float32LE => Value::Float(value),
             FloatEncoding::FixedPoint => Value::FixedPoint(FixedPoint::from_f32(value)),
         }
@@ -83,8 +81,7 @@ impl Dialect {
     pub fn delay(self, num_samples: u32) -> Value
         ensures { result ≡ delay_for self.addr_encoding num_samples }
     {
-        let encoding = self.addr_encoding;
-        match encoding {
+        match self.addr_encoding {
             AddrEncoding::AddrLen2 => Value::Int32(num_samples),
             AddrEncoding::AddrLen3 => Value::Int((num_samples % 0x1_0000) as u16),
         }
@@ -93,8 +90,7 @@ impl Dialect {
     pub fn mute(self, mute: bool) -> Value
         ensures { result ≡ mute_for self.addr_encoding mute }
     {
-        let encoding = self.addr_encoding;
-        match encoding {
+        match self.addr_encoding {
             AddrEncoding::AddrLen2 => Value::Int32(if mute { 0 } else { 0x0080_0000 }),
             AddrEncoding::AddrLen3 => Value::Int(if mute { 1 } else { 2 }),
         }
@@ -103,8 +99,7 @@ impl Dialect {
     pub fn invert(self, value: bool) -> Value
         ensures { result ≡ invert_for self.addr_encoding value }
     {
-        let encoding = self.addr_encoding;
-        match encoding {
+        match self.addr_encoding {
             AddrEncoding::AddrLen2 => Value::Int32(if value { 0xff80_0000 } else { 0x0080_0000 }),
             AddrEncoding::AddrLen3 => Value::Int(value as u16),
         }

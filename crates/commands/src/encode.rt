@@ -1,7 +1,7 @@
 // Writing commands: each is a row of fields. (Commands::to_bytes)
 ghost use Rattle.std.specs.Prelude.{◌≡◌, [], ◌∷◌};
-ghost use Rattle.octets.specs.Outcome.{written};
-ghost use Rattle.fields.specs.Row.{row_into, row_frame_into, fields_of, padded};
+ghost use Rattle.octets.specs.Outcome.{outcome};
+ghost use Rattle.fields.specs.Row.{row_into, row_frame_into, padded};
 ghost use Rattle.fields.specs.Addr.{addr_of};
 ghost use Rattle.fields.specs.declared.row.Field.TheVariants.{Byte, Word, Address, Coded, Payload, Floats};
 ghost use Rattle.commands.specs.declared.Commands.TheVariants.{WriteBiquad};
@@ -10,28 +10,40 @@ ghost use Rattle.commands.specs.Encode.{command_row, mux_byte};
 use crate::{Commands, FirData, Mux};
 use fields::addr::Addr;
 use fields::row;
-use fields::row::{Cell, Field};
-use fields::value::Coefficient;
-use octets::{Place, Written};
+use fields::row::Field;
+use fields::value::Value;
+use octets::{Place, Refusal};
 
 impl Commands {
     // Writes the command's packet over the start of out. A payload stands in the bytes lent beside.
-    pub fn to_bytes(self, values: [Coefficient; 5], payload: &[u8], out: &mut [u8]) -> Written
-        ensures { (written result, out.new) ≡ row_into payload.now (command_row self values) out.old }
+    #[tactic(auto, using(fields::proofs::Rows::encoded_padded))]
+    pub fn to_bytes(
+        self,
+        values: [Value; 5],
+        payload: &[u8],
+        out: &mut [u8],
+    ) -> Result<usize, Refusal>
+        ensures { (outcome result, out.new) ≡ row_into payload.now (command_row self values) out.old }
     {
         row::write(command_row(self, values), payload, out)
     }
 
     // Writes the command's frame.
-    pub fn to_frame(self, values: [Coefficient; 5], payload: &[u8], out: &mut [u8]) -> Written
-        ensures { (written result, out.new) ≡ row_frame_into payload.now (command_row self values) out.old }
+    #[tactic(auto, using(fields::proofs::Rows::encoded_padded))]
+    pub fn to_frame(
+        self,
+        values: [Value; 5],
+        payload: &[u8],
+        out: &mut [u8],
+    ) -> Result<usize, Refusal>
+        ensures { (outcome result, out.new) ≡ row_frame_into payload.now (command_row self values) out.old }
     {
         row::frame(command_row(self, values), payload, out)
     }
 }
 
-fn command_row(command: Commands, values: [Coefficient; 5]) -> [Cell; 8]
-    ensures { fields_of result ≡ padded (command_row command values) }
+fn command_row(command: Commands, values: [Value; 5]) -> [Field; 8]
+    ensures { result ≡ padded (command_row command values) }
 {
     match command {
         Commands::ReadHardwareId => row::row1(Field::Byte(0x31)),
@@ -59,45 +71,45 @@ fn command_row(command: Commands, values: [Coefficient; 5]) -> [Cell; 8]
 }
 
 // A code and what stands behind it.
-fn byte_row(code: u8, value: u8) -> [Cell; 8]
-    ensures { fields_of result ≡ padded (Byte code ∷ Byte value ∷ []) }
+fn byte_row(code: u8, value: u8) -> [Field; 8]
+    ensures { result ≡ padded (Byte code ∷ Byte value ∷ []) }
 {
     row::row2(Field::Byte(code), Field::Byte(value))
 }
 
-fn payload_row(code: u8, place: Place) -> [Cell; 8]
-    ensures { fields_of result ≡ padded (Byte code ∷ Payload place ∷ []) }
+fn payload_row(code: u8, place: Place) -> [Field; 8]
+    ensures { result ≡ padded (Byte code ∷ Payload place ∷ []) }
 {
     row::row2(Field::Byte(code), Field::Payload(place))
 }
 
-fn word_row(code: u8, addr: u16, field: Field) -> [Cell; 8]
-    ensures { fields_of result ≡ padded (Byte code ∷ Word addr ∷ field ∷ []) }
+fn word_row(code: u8, addr: u16, field: Field) -> [Field; 8]
+    ensures { result ≡ padded (Byte code ∷ Word addr ∷ field ∷ []) }
 {
     row::row3(Field::Byte(code), Field::Word(addr), field)
 }
 
-fn address_row(code: u8, addr: Addr, field: Field) -> [Cell; 8]
-    ensures { fields_of result ≡ padded (Byte code ∷ Address addr ∷ field ∷ []) }
+fn address_row(code: u8, addr: Addr, field: Field) -> [Field; 8]
+    ensures { result ≡ padded (Byte code ∷ Address addr ∷ field ∷ []) }
 {
     row::row3(Field::Byte(code), Field::Address(addr), field)
 }
 
-fn config_row(config: u8, reset: u8) -> [Cell; 8]
-    ensures { fields_of result ≡ padded (Byte 0x25 ∷ Byte config ∷ Byte reset ∷ []) }
+fn config_row(config: u8, reset: u8) -> [Field; 8]
+    ensures { result ≡ padded (Byte 0x25 ∷ Byte config ∷ Byte reset ∷ []) }
 {
     row::row3(Field::Byte(0x25), Field::Byte(config), Field::Byte(reset))
 }
 
-fn bypass_row(addr: Addr, value: bool) -> [Cell; 8]
-    ensures { fields_of result ≡ padded (Byte 0x19 ∷ Address (addr_of addr.val addr.len value) ∷ []) }
+fn bypass_row(addr: Addr, value: bool) -> [Field; 8]
+    ensures { result ≡ padded (Byte 0x19 ∷ Address (addr_of addr.val addr.len value) ∷ []) }
 {
     let addr = Addr::new_with_extra_bit(addr.val, addr.len, value);
     row::row2(Field::Byte(0x19), Field::Address(addr))
 }
 
-fn fir_row(index: u8, data: FirData) -> [Cell; 8]
-    ensures { fields_of result ≡ padded (Byte 0x3A ∷ Byte index ∷ Floats «data».start «data».count ∷ []) }
+fn fir_row(index: u8, data: FirData) -> [Field; 8]
+    ensures { result ≡ padded (Byte 0x3A ∷ Byte index ∷ Floats «data».start «data».count ∷ []) }
 {
     row::row3(
         Field::Byte(0x3a),
@@ -109,15 +121,13 @@ fn fir_row(index: u8, data: FirData) -> [Cell; 8]
     )
 }
 
-fn mux_row(mux: Mux) -> [Cell; 8]
-    ensures { fields_of result ≡ padded (Byte 0x29 ∷ Address mux.addr ∷ Byte (mux_byte mux.max mux.arg) ∷ Byte mux.slot ∷ []) }
+fn mux_row(mux: Mux) -> [Field; 8]
+    ensures { result ≡ padded (Byte 0x29 ∷ Address mux.addr ∷ Byte (mux_byte mux.max mux.arg) ∷ Byte mux.slot ∷ []) }
 {
-    let addr = mux.addr;
-    let max = mux_byte(mux.max, mux.arg);
     row::row4(
         Field::Byte(0x29),
-        Field::Address(addr),
-        Field::Byte(max),
+        Field::Address(mux.addr),
+        Field::Byte(mux_byte(mux.max, mux.arg)),
         Field::Byte(mux.slot),
     )
 }
@@ -126,43 +136,22 @@ fn mux_row(mux: Mux) -> [Cell; 8]
 fn mux_byte(max: u8, arg: bool) -> u8
     ensures { result ≡ mux_byte max arg }
 {
-    if arg {
-        return 128 + max % 128;
-    }
-    max
+    if arg { 128 + max % 128 } else { max }
 }
 
-fn biquad_row(addr: Addr, values: [Coefficient; 5]) -> [Cell; 8]
-    ensures { fields_of result ≡ padded (command_row (WriteBiquad addr) values) }
+#[tactic(auto, unfolding(fields::specs::Row::padded, fields::specs::Row::nothings))]
+fn biquad_row(addr: Addr, values: [Value; 5]) -> [Field; 8]
+    ensures { result ≡ padded (command_row (WriteBiquad addr) values) }
 {
-    let v0 = values[0];
-    let v1 = values[1];
-    let v2 = values[2];
-    let v3 = values[3];
-    let v4 = values[4];
+    let [v0, v1, v2, v3, v4] = values;
     [
-        Cell {
-            field: Field::Byte(0x30),
-        },
-        Cell {
-            field: Field::Address(addr),
-        },
-        Cell {
-            field: Field::Word(0),
-        },
-        coded(v0),
-        coded(v1),
-        coded(v2),
-        coded(v3),
-        coded(v4),
+        Field::Byte(0x30),
+        Field::Address(addr),
+        Field::Word(0),
+        Field::Coded(v0),
+        Field::Coded(v1),
+        Field::Coded(v2),
+        Field::Coded(v3),
+        Field::Coded(v4),
     ]
-}
-
-fn coded(coefficient: Coefficient) -> Cell
-    ensures { result.field ≡ Coded coefficient.value }
-{
-    let value = coefficient.value;
-    Cell {
-        field: Field::Coded(value),
-    }
 }

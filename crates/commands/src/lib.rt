@@ -21,14 +21,14 @@ pub fn read_floats_max() -> usize
 }
 
 // As many floats as count says, from start on in lent bytes, of four little-endian bytes each.
-#[derive(Clone, Copy)]
+#[derive(Clone, Copy, Debug, PartialEq, Eq)]
 pub struct FirData {
     pub start: usize,
     pub count: usize,
 }
 
 // What a mux is switched to. A struct, so that the definitions know its numbers by their names.
-#[derive(Clone, Copy)]
+#[derive(Clone, Copy, Debug, PartialEq, Eq)]
 pub struct Mux {
     // start address
     pub addr: Addr,
@@ -106,15 +106,14 @@ impl Commands {
     pub fn mute(addr: Addr, value: bool) -> Self
         ensures { result ≡ mute_of addr value }
     {
-        if value {
-            return Commands::Write {
-                addr,
-                value: Value::Int(write_int::DISABLED),
-            };
-        }
+        let code = if value {
+            write_int::DISABLED
+        } else {
+            write_int::ENABLED
+        };
         Commands::Write {
             addr,
-            value: Value::Int(write_int::ENABLED),
+            value: Value::Int(code),
         }
     }
 }

@@ -1,6 +1,6 @@
 -- The answer is settled in one step and what it leaves in another.
-use Prim.Native.Nat.{ℕ, ◌-◌, ◌≤◌}
-use mathlib.Core.Path.{◌≡◌, ap, ◌∙◌}
+use Prim.Native.Nat.{ℕ, ◌≤◌}
+use mathlib.Core.Path.{◌≡◌, sym, ap, ◌∙◌}
 use mathlib.Core.List.{List}
 use native.Mathlib.Omega.{arith}
 use lib.ListN.{length, take, drop, length-append}
@@ -23,6 +23,6 @@ module _ (w z : List ℕ) {o : List ℕ} (wrote : o ≡ over w z) where
   unfolding over
   over-le = rw (wrote, length-append w (drop (length w) z)) (omega arith)
 
-  pub over_first : (n : ℕ) → n ≡ length w → take (n - 0) (drop 0 o) ≡ w
+  pub over_first : (n : ℕ) → n ≡ length w → take n o ≡ w
   unfolding over
-  over_first n e = rw wrote (take_at w (drop (length w) z) (n - 0) (omega arith))
+  over_first n e = rw wrote (take_at w (drop (length w) z) n (sym e))

@@ -1,17 +1,20 @@
 -- The payload of an answer as it is put together.
-use Prim.Native.Nat.{ℕ, zero, suc, ◌+◌, ◌-◌, ◌*◌, ◌≤◌, ◌<◌}
+use Prim.Native.Nat.{ℕ, zero, suc, ◌+◌, ◌-◌, ◌*◌, ◌≤◌, ◌<◌, min}
+use mathlib.Core.Logic.{◌⊎◌, inl, inr}
 use mathlib.Core.Path.{◌≡◌, refl, sym, ap, ◌∙◌}
 use mathlib.Core.List.{List, [], ◌∷◌, ◌++◌, append_assoc, append-nil}
 use native.Mathlib.Numerals.{add-one}
 use native.Mathlib.Omega.{arith}
-use lib.ListN.{length, take, drop, get_or, replicate, length-append, length-take, length-drop, length-replicate}
-use lib.Seq.{take_all}
+use lib.ListN.{length, take, drop, get_or, replicate, length-append, length-take, length-drop, length-replicate, drop_of_length-le}
+use lib.Seq.{take_all, take_at, take-nil, drop_at, drop-drop}
+use Rattle.std.proofs.lemmas.List.{take-replicate}
+use Rattle.octets.proofs.Choosing.{lt-or-le}
 use Rattle.octets.specs.Number.{little_bytes}
 use Rattle.octets.specs.Outcome.{Outcome}
 use Rattle.octets.specs.Over.{over, into}
 use Rattle.octets.specs.Place.{place_at, part_of}
 use Rattle.octets.proofs.InBytes.{length-little}
-use Rattle.octets.proofs.Overlay.{put-over, put_rest, length_over}
+use Rattle.octets.proofs.Overlay.{put-over, put_rest}
 use Rattle.device.specs.Effect.{taken_of}
 use Rattle.device.specs.Data.{memory_part, word_bytes}
 
@@ -19,12 +22,6 @@ use Rattle.device.specs.Data.{memory_part, word_bytes}
 pub found-le : (l : List ℕ) (a k : ℕ) {w : List ℕ} → w ≡ part_of l (place_at a k) → length w ≤ k
 unfolding part_of
 found-le l a k e = rw (e, length-take k (drop a l)) (omega arith)
-
--- the first of many equal bytes
-take-replicate : (m n x : ℕ) → m ≤ n → take m (replicate n x) ≡ replicate m x
-take-replicate zero n x h = refl
-take-replicate (suc m) zero x h = absurd (omega arith)
-take-replicate (suc m) (suc n) x h = ap (λ (r : List ℕ). x ∷ r) (take-replicate m n x (omega arith))
 
 -- as a part of an array
 pub first_of : (m n x : ℕ) → m ≤ n → take (m - 0) (drop 0 (replicate n x)) ≡ replicate m x
@@ -41,16 +38,24 @@ words_more zero (w ∷ ws) h = append-nil (little_bytes 4 w)
 words_more (suc i) (w ∷ ws) h = ap (λ (r : List ℕ). little_bytes 4 w ++ r) (words_more i ws (omega arith)) ∙ sym (append_assoc (little_bytes 4 w) (word_bytes (take i ws)) (little_bytes 4 (get_or ws i 0)))
 words_more i [] h = absurd (omega arith)
 
--- words that were put: so many, or all that there are
-module _ (i : ℕ) (d : List ℕ) (h : i ≤ length d) where
-  pub words-put : length (word_bytes (take i d)) ≡ i * 4
-  words-put = rw (length-words (take i d), length-take i d) (omega arith)
+-- the words that there are from a place on, up to so many
+pub words-found : (s : List ℕ) (base count end : ℕ) → end ≡ min (length s) (base + count) → take (end - min base end) (drop (min base end) s) ≡ take count (drop base s)
+words-found s base count end e = go (lt-or-le (length s) base) (lt-or-le (base + count) (length s))
+  where
+    long : length (drop base s) ≡ length s - base
+    long = length-drop base s
 
-  pub words-all : (count : ℕ) → i ≤ count → length d ≤ i → take count d ≡ take i d
-  words-all count g k = take_all count d (omega arith) ∙ sym (take_all i d k)
+    go : (length s < base) ⊎ (base ≤ length s) → (base + count < length s) ⊎ (length s ≤ base + count) → take (end - min base end) (drop (min base end) s) ≡ take count (drop base s)
+    go (inl h) g = let none : end - min base end ≡ 0 = omega arith in let past : drop base s ≡ [] = drop_of_length-le s (omega arith) in rw (none, past) (sym (take-nil count))
+    go (inr h) (inl g) =
+        let from : min base end ≡ base = omega arith in
+        let many : end - base ≡ count = omega arith in rw (from, many)
+    go (inr h) (inr g) =
+        let from : min base end ≡ base = omega arith in rw from (take_all (end - base) (drop base s) (omega (arith, long)) ∙ sym (take_all count (drop base s) (omega (arith, long))))
 
-  pub words-finish : (count : ℕ) (z : List ℕ) {o : List ℕ} → take count d ≡ take i d → o ≡ over (word_bytes (take i d)) z → (i * 4 ≡ length (word_bytes (take count d))) × (o ≡ over (word_bytes (take count d)) z)
-  words-finish count z e wrote = rw e (sym words-put, wrote)
+-- all of them were put
+pub words-done : (d z whole : List ℕ) (i : ℕ) {o : List ℕ} → length d ≤ i → o ≡ over (word_bytes (take i d)) z → d ≡ whole → (length d * 4 ≡ length (word_bytes whole)) × (o ≡ over (word_bytes whole) z)
+words-done d z whole i h wrote e = rw (← e) (sym (length-words d), rw (take_all i d h) at wrote)
 
 -- one more is put
 module _ (i : ℕ) (d z : List ℕ) (h : i < length d) (room : i * 4 + 4 ≤ length z) where
@@ -58,10 +63,14 @@ module _ (i : ℕ) (d z : List ℕ) (h : i < length d) (room : i * 4 + 4 ≤ len
       → take (i * 4) o ++ (y ++ drop (length o - i * 4) (drop (i * 4) o)) ≡ over (word_bytes (take (i + 1) d)) z
   words-next {v = v} wrote e put =
       let four : length v ≡ 4 = rw (e, length-little) in
-      put_rest (word_bytes (take i d)) z wrote v (i * 4) put (sym (words-put i d (omega arith))) (omega arith) ∙ ap (λ (w : List ℕ). over w z) (rw (e, add-one) (sym (words_more i d h)))
+      let long : length (word_bytes (take i d)) ≡ i * 4 = rw (length-words (take i d), length-take i d) (omega arith) in
+      put_rest (word_bytes (take i d)) z wrote v (i * 4) put (sym long) (omega arith) ∙ ap (λ (w : List ℕ). over w z) (rw (e, add-one) (sym (words_more i d h)))
 
-  pub words-room : length (over (word_bytes (take (i + 1) d)) z) ≡ length z
-  words-room = length_over _ _ (rw (words-put (i + 1) d (omega arith)) (omega arith))
+-- bytes that were put behind others, in a part that is as long as they
+over-middle : (w v l : List ℕ) (n : ℕ) {o : List ℕ} → o ≡ over w l → n ≡ length v → take (length w) o ++ (v ++ drop n (drop (length w) o)) ≡ over (w ++ v) l
+unfolding over
+over-middle w v l n wrote h =
+    let d : List ℕ = drop (length w) l in rw (wrote, take_at w d (length w) refl, drop_at w d (length w) refl, h, drop-drop, length-append, append_assoc)
 
 -- the part and the fill, put one behind the other
 module _ (e z : List ℕ) (a size : ℕ) {k : ℕ} (t : k ≡ taken_of a size) (h : k ≤ size) (room : size ≤ length z) {w : List ℕ} (found : w ≡ part_of e (place_at a k)) where
@@ -71,9 +80,9 @@ module _ (e z : List ℕ) (a size : ℕ) {k : ℕ} (t : k ≡ taken_of a size) (
   pub memory-length : length w + (size - k) ≡ length (memory_part e a size)
   memory-length = rw (← whole, length-append w (replicate (size - k) 255), length-replicate {A = ℕ} (size - k) 255)
 
-  pub memory-put : {r q : Outcome ℕ} {o y v : List ℕ} → (r, o) ≡ into w z → v ≡ replicate (size - k) 255 → (q, y) ≡ into v (take (length o - length w) (drop (length w) o))
-      → take (length w) o ++ (y ++ drop (length o - length w) (drop (length w) o)) ≡ over (memory_part e a size) z
-  memory-put {o = o} {v = v} first fill second =
+  pub memory-put : {r : Outcome ℕ} {o y : List ℕ} {j : ℕ} (n : ℕ) → (r, o) ≡ into w z → y ≡ replicate j 255 → j ≡ size - k → n ≡ size - k
+      → take (length w) o ++ (y ++ drop n (drop (length w) o)) ≡ over (memory_part e a size) z
+  memory-put n first fill many g =
       let short : length w ≤ k = found-le e a k found in
-      let more : length v ≡ size - k = rw (fill, length-replicate {A = ℕ} (size - k) 255) in
-      put_rest w z (put-over w z first (omega arith)) v (length w) second refl (omega arith) ∙ ap (λ (l : List ℕ). over l z) (rw (fill, ← whole))
+      let long : length (replicate {A = ℕ} (size - k) 255) ≡ size - k = length-replicate {A = ℕ} (size - k) 255 in
+      rw (fill, many) (over-middle w (replicate (size - k) 255) z n (put-over w z first (omega arith)) (omega arith) ∙ ap (λ (l : List ℕ). over l z) whole)

@@ -15,7 +15,7 @@ use Rattle.responses.specs.Encode.{response_row}
 use Rattle.processor.specs.Memory.{Memory, oversized}
 use Rattle.device.specs.Effect.{Effect}
 use Rattle.device.specs.Data.{data_of}
-use Rattle.device.specs.Execute.{Left, store_if, refusing, if_sized, effect_in, form_of, effect_into, recorded, command_into, executed_into, executed_record, packet_into, received_into}
+use Rattle.device.specs.Execute.{Left, store_if, refusing, if_sized, effect_in, form_of, effect_into, recorded, command_into, executed_into, executed_record, received_into}
 use Rattle.processor.specs.declared.Device.{Device}
 
 -- what is left by a refusal

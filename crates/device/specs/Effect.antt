@@ -1,6 +1,6 @@
 -- What each command does, as document 01 has it under "Device": the answer as a record, and what it puts where. p is
 -- what the caller lends for the command's payload; e and s are the sizes of the memories.
-use Rattle.std.specs.Prelude.{ℕ, ◌+◌, ◌-◌, Bool, List, [], ◌∷◌, ◌++◌, length, take, drop}
+use Rattle.std.specs.Prelude.{ℕ, ◌+◌, ◌-◌, List, [], ◌∷◌, length}
 use Rattle.std.specs.Float.{binary32}
 use Rattle.std.specs.Float.Ieee.{to_bits}
 use Rattle.octets.specs.Refusals.{outside}

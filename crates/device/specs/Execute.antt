@@ -17,12 +17,6 @@ use Rattle.processor.specs.Memory.{Memory, Store, store, oversized}
 use Rattle.device.specs.Effect.{Effect, effect_of}
 use Rattle.device.specs.Data.{data_of}
 use Rattle.processor.specs.declared.Device.{Device}
-use Rattle.device.specs.declared.execute.Executed.{Executed}
-use Rattle.device.specs.declared.execute.Executed.TheVariants.{Response, Refused}
-
-abbrev pub executed : Executed → Outcome Responses
-executed (Response r) = accepted r
-executed (Refused k) = refused k
 
 -- an answer, with the memories and the output that it leaves
 abbrev pub Left : Type 0 → Type 0

@@ -13,7 +13,7 @@ use facts::eeprom::{MASTER_VOLUME, MUTE, PRESET, SOURCE};
 use fields::addr::Addr;
 use fields::value::Value;
 use numbers::fixed_point::FixedPoint;
-use octets::{Place, number, refusal};
+use octets::{Place, Refusal, number};
 use processor::change::Change;
 use processor::{Device, LARGEST};
 use responses::Responses::{Ack, ConfigChanged, Unk02};
@@ -28,18 +28,17 @@ pub struct Plan {
     pub change: Change,
 }
 
-// What a command does, or the number of its refusal.
-#[derive(Clone, Copy)]
-pub enum Decided {
-    Does(Plan),
-    Refused(u8),
-}
-
 // Read's answer, the code of -10 dB
 const READ_ANSWER: u32 = 0x0028_7A26;
 
 // A payload of the answer, from eeprom or settings, stands at the start of its own bytes.
-pub fn decide(device: Device, command: Commands, payload: &[u8], e: usize, s: usize) -> Decided
+pub fn decide(
+    device: Device,
+    command: Commands,
+    payload: &[u8],
+    e: usize,
+    s: usize,
+) -> Result<Plan, Refusal>
     ensures { (decided payload.now result ≡ effect_of device payload.now e s command) × (answer_length result ≤ 1020) }
 {
     match command {
@@ -55,22 +54,22 @@ pub fn decide(device: Device, command: Commands, payload: &[u8], e: usize, s: us
         Commands::FirLoadStart { .. } => tells(fir_size(device)),
         Commands::Unk07 { .. } => tells(Unk02),
         Commands::Read { addr, len: _ } => tells(reading(addr)),
-        Commands::WriteBiquad { .. } => tells(Ack),
-        Commands::WriteBiquadBypass { .. } => tells(Ack),
-        Commands::FirLoadData { .. } => tells(Ack),
-        Commands::FirLoadEnd => tells(Ack),
-        Commands::DiracBypass { .. } => tells(Ack),
-        Commands::BulkLoad { .. } => tells(Ack),
-        Commands::BulkLoadFilterData { .. } => tells(Ack),
-        Commands::SwitchMux { .. } => tells(Ack),
-        Commands::Unknown { .. } => tells(Ack),
+        Commands::WriteBiquad { .. }
+        | Commands::WriteBiquadBypass { .. }
+        | Commands::FirLoadData { .. }
+        | Commands::FirLoadEnd
+        | Commands::DiracBypass { .. }
+        | Commands::BulkLoad { .. }
+        | Commands::BulkLoadFilterData { .. }
+        | Commands::SwitchMux { .. }
+        | Commands::Unknown { .. } => tells(Ack),
     }
 }
 
-fn tells(response: Responses) -> Decided
+fn tells(response: Responses) -> Result<Plan, Refusal>
     ensures { result ≡ does response Nothing }
 {
-    Decided::Does(Plan {
+    Ok(Plan {
         response,
         change: Change::Nothing,
     })
@@ -109,76 +108,75 @@ pub fn taken(addr: u16, size: usize) -> usize
 {
     let addr = addr as usize;
     if size <= LARGEST - addr {
-        return size;
+        size
+    } else {
+        LARGEST - 1 - addr
     }
-    LARGEST - 1 - addr
 }
 
-fn read_memory(base: u16, size: u8, e: usize) -> Decided
+fn read_memory(base: u16, size: u8, e: usize) -> Result<Plan, Refusal>
     ensures { ((p : List ℕ) → decided p result ≡ read_memory_does e base size) × (answer_length result ≤ 1020) }
 {
     let len = size as usize;
     if e < base as usize + taken(base, len) {
-        return Decided::Refused(refusal::OUTSIDE);
+        return Err(Refusal::Outside);
     }
     let data = Place { start: 0, len };
     tells(Responses::MemoryData(MemoryView { base, data }))
 }
 
-fn read_floats(base: u16, len: u8, s: usize) -> Decided
+fn read_floats(base: u16, len: u8, s: usize) -> Result<Plan, Refusal>
     ensures { ((p : List ℕ) → decided p result ≡ read_floats_does s base len) × (answer_length result ≤ 1020) }
 {
     let count = len as usize;
     if s < base as usize + count {
-        return Decided::Refused(refusal::OUTSIDE);
+        return Err(Refusal::Outside);
     }
     let start = 0;
     tells(Responses::FloatData(FloatView { base, start, count }))
 }
 
-fn write_memory(addr: u16, data: Place, payload: &[u8], e: usize) -> Decided
+fn write_memory(addr: u16, data: Place, payload: &[u8], e: usize) -> Result<Plan, Refusal>
     ensures { (decided payload.now result ≡ write_memory_does payload.now e addr «data») × (answer_length result ≤ 1020) }
 {
     if octets::is_outside(data, payload.len()) {
-        return Decided::Refused(refusal::OUTSIDE);
+        return Err(Refusal::Outside);
     }
-    if e < addr as usize {
-        return Decided::Refused(refusal::OUTSIDE);
+    if e < addr as usize || e - (addr as usize) < data.len {
+        return Err(Refusal::Outside);
     }
-    if e - (addr as usize) < data.len {
-        return Decided::Refused(refusal::OUTSIDE);
-    }
-    Decided::Does(Plan {
+    Ok(Plan {
         response: Ack,
         change: Change::EepromBytes { addr, data },
     })
 }
 
-fn set_byte(addr: u16, value: u8, e: usize, response: Responses) -> Decided
+fn set_byte(addr: u16, value: u8, e: usize, response: Responses) -> Result<Plan, Refusal>
     ensures { ((p : List ℕ) → decided p result ≡ set_byte e addr value response) × (answer_length result ≤ data_length response) }
 {
     if (addr as usize) < e {
-        return Decided::Does(Plan {
+        Ok(Plan {
             response,
             change: Change::EepromByte { addr, value },
-        });
+        })
+    } else {
+        Err(Refusal::Outside)
     }
-    Decided::Refused(refusal::OUTSIDE)
 }
 
 // A value of another length than four names nothing.
-fn write_word(addr: u32, value: Value, payload: &[u8], s: usize) -> Decided
+fn write_word(addr: u32, value: Value, payload: &[u8], s: usize) -> Result<Plan, Refusal>
     ensures { (decided payload.now result ≡ write_does payload.now s addr value) × (answer_length result ≤ 1020) }
 {
     if value.is_outside(payload.len()) {
-        return Decided::Refused(refusal::OUTSIDE);
+        return Err(Refusal::Outside);
     }
     if is_four(value) {
         if s <= addr as usize {
-            return Decided::Refused(refusal::OUTSIDE);
+            return Err(Refusal::Outside);
         }
         let word = word_of(value, payload);
-        return Decided::Does(Plan {
+        return Ok(Plan {
             response: Ack,
             change: Change::SettingsWord { addr, value: word },
         });
@@ -190,10 +188,7 @@ fn is_four(value: Value) -> bool
     ensures { (p : List ℕ) → value_outside value (length p) ≡ false → result ≡ eqb (length (value_bytes value p)) 4 }
 {
     match value {
-        Value::Float(_) => true,
-        Value::FixedPoint(_) => true,
-        Value::Int(_) => true,
-        Value::Int32(_) => true,
+        Value::Float(_) | Value::FixedPoint(_) | Value::Int(_) | Value::Int32(_) => true,
         Value::Unknown(place) => place.len == 4,
     }
 }
@@ -204,6 +199,6 @@ fn word_of(value: Value, payload: &[u8]) -> u32
     ensures { result ≡ little_at 4 (value_bytes value payload.now) 0 }
 {
     let mut bytes = [0u8; 4];
-    value.into_bytes(payload, &mut bytes);
+    let _ = value.into_bytes(payload, &mut bytes);
     number::little32(&bytes, 0)
 }

@@ -1,31 +1,21 @@
 // Executing commands: everything is decided and the answer settled, and only then stored.
 ghost use Rattle.std.specs.Prelude.{◌≡◌, length, ◌+◌, ◌*◌, ◌≤◌};
-ghost use Rattle.octets.specs.Outcome.{written};
+ghost use Rattle.octets.specs.Outcome.{outcome};
 ghost use Rattle.octets.specs.Over.{over};
 ghost use Rattle.processor.specs.Memory.{memory};
-ghost use Rattle.processor.specs.Change.{writes_in};
 ghost use Rattle.device.specs.Inside.{data_length};
 ghost use Rattle.device.specs.Data.{data_of, memory_part, words_part};
-ghost use Rattle.device.specs.Execute.{executed, executed_record, executed_into, command_into, answer_into, store_if, packet_into, received_into};
+ghost use Rattle.device.specs.Execute.{executed_record, executed_into, command_into, answer_into, packet_into, received_into};
 
-use crate::effect::{Decided, decide, taken};
+use crate::effect::{Plan, decide, taken};
 use commands::Commands;
-use commands::decode::ReadCommand;
-use octets::{Place, Written, number, refusal};
-use packet::Received;
-use processor::change::{Change, store};
+use octets::{Place, Refusal, number};
+use processor::change::store;
 use processor::{Device, too_large};
 use responses::Responses;
 
 // The most bytes that an answer's payload has: 255 words.
 const LONGEST_PAYLOAD: usize = 1020;
-
-// The answer as a record, or the number of the refusal.
-#[derive(Clone, Copy)]
-pub enum Executed {
-    Response(Responses),
-    Refused(u8),
-}
 
 // Receives a frame, executes its command and writes the answer's frame.
 pub fn receive(
@@ -34,18 +24,14 @@ pub fn receive(
     eeprom: &mut [u8],
     settings: &mut [u32],
     out: &mut [u8],
-) -> Written
-    ensures { (written result, memory eeprom.new settings.new, out.new) ≡ received_into device frame.now (memory eeprom.old settings.old) out.old }
+) -> Result<usize, Refusal>
+    ensures { (outcome result, memory eeprom.new settings.new, out.new) ≡ received_into device frame.now (memory eeprom.old settings.old) out.old }
 {
     if too_large(eeprom.len(), settings.len()) {
-        return Written::Refused(refusal::WRONG_SIZES);
+        return Err(Refusal::WrongSizes);
     }
-    match packet::unframe(frame) {
-        Received::Packet(place) => {
-            receive_packet(device, octets::part(frame, place), eeprom, settings, out)
-        }
-        Received::Refused(k) => Written::Refused(k),
-    }
+    let place = packet::unframe(frame)?;
+    receive_packet(device, octets::part(frame, place), eeprom, settings, out)
 }
 
 fn receive_packet(
@@ -54,17 +40,11 @@ fn receive_packet(
     eeprom: &mut [u8],
     settings: &mut [u32],
     out: &mut [u8],
-) -> Written
-    ensures { (written result, memory eeprom.new settings.new, out.new) ≡ packet_into device packet.now (memory eeprom.old settings.old) out.old }
+) -> Result<usize, Refusal>
+    ensures { (outcome result, memory eeprom.new settings.new, out.new) ≡ packet_into device packet.now (memory eeprom.old settings.old) out.old }
 {
-    let decoded = Commands::from_bytes(packet);
-    let answer = decoded.answer;
-    match answer {
-        ReadCommand::Command(command) => {
-            answer_into(device, command, packet, true, eeprom, settings, out)
-        }
-        ReadCommand::Refused(k) => Written::Refused(k),
-    }
+    let command = Commands::from_bytes(packet).answer?;
+    answer_into(device, command, packet, true, eeprom, settings, out)
 }
 
 // Executes a command and writes its answer's packet. A payload of the command stands in the bytes
@@ -76,11 +56,11 @@ pub fn execute_into(
     eeprom: &mut [u8],
     settings: &mut [u32],
     out: &mut [u8],
-) -> Written
-    ensures { (written result, memory eeprom.new settings.new, out.new) ≡ executed_into device command payload.now (memory eeprom.old settings.old) out.old }
+) -> Result<usize, Refusal>
+    ensures { (outcome result, memory eeprom.new settings.new, out.new) ≡ executed_into device command payload.now (memory eeprom.old settings.old) out.old }
 {
     if too_large(eeprom.len(), settings.len()) {
-        return Written::Refused(refusal::WRONG_SIZES);
+        return Err(Refusal::WrongSizes);
     }
     answer_into(device, command, payload, false, eeprom, settings, out)
 }
@@ -93,22 +73,16 @@ pub fn execute(
     eeprom: &mut [u8],
     settings: &mut [u32],
     data: &mut [u8; LONGEST_PAYLOAD],
-) -> Executed
-    ensures { (executed result, memory eeprom.new settings.new, «data».new) ≡ executed_record device command payload.now (memory eeprom.old settings.old) «data».old }
+) -> Result<Responses, Refusal>
+    ensures { (outcome result, memory eeprom.new settings.new, «data».new) ≡ executed_record device command payload.now (memory eeprom.old settings.old) «data».old }
 {
     if too_large(eeprom.len(), settings.len()) {
-        return Executed::Refused(refusal::WRONG_SIZES);
+        return Err(Refusal::WrongSizes);
     }
-    match decide(device, command, payload, eeprom.len(), settings.len()) {
-        Decided::Does(effect) => {
-            let response = effect.response;
-            let change = effect.change;
-            put_data(response, &eeprom[..], &settings[..], data);
-            store(change, payload, eeprom, settings);
-            Executed::Response(response)
-        }
-        Decided::Refused(k) => Executed::Refused(k),
-    }
+    let Plan { response, change } = decide(device, command, payload, eeprom.len(), settings.len())?;
+    put_data(response, eeprom, settings, data);
+    store(change, payload, eeprom, settings);
+    Ok(response)
 }
 
 // The answer's frame, or its packet alone.
@@ -120,20 +94,15 @@ fn answer_into(
     eeprom: &mut [u8],
     settings: &mut [u32],
     out: &mut [u8],
-) -> Written
-    ensures { (written result, memory eeprom.new settings.new, out.new) ≡ command_into device framed command payload.now (memory eeprom.old settings.old) out.old }
+) -> Result<usize, Refusal>
+    ensures { (outcome result, memory eeprom.new settings.new, out.new) ≡ command_into device framed command payload.now (memory eeprom.old settings.old) out.old }
 {
-    match decide(device, command, payload, eeprom.len(), settings.len()) {
-        Decided::Does(effect) => {
-            let response = effect.response;
-            let change = effect.change;
-            let mut data = [0u8; LONGEST_PAYLOAD];
-            let n = put_data(response, &eeprom[..], &settings[..], &mut data);
-            let answer = write_answer(response, &data[0..n], framed, out);
-            store_if(answer, change, payload, eeprom, settings)
-        }
-        Decided::Refused(k) => Written::Refused(k),
-    }
+    let plan = decide(device, command, payload, eeprom.len(), settings.len())?;
+    let mut data = [0; LONGEST_PAYLOAD];
+    let n = put_data(plan.response, eeprom, settings, &mut data);
+    let written = write_answer(plan.response, &data[..n], framed, out)?;
+    store(plan.change, payload, eeprom, settings);
+    Ok(written)
 }
 
 // Writes the answer's payload, taken from the memories, over the start of data, and answers how many
@@ -143,18 +112,15 @@ fn put_data(response: Responses, eeprom: &[u8], settings: &[u32], data: &mut [u8
     ensures { (result ≡ length (data_of (memory eeprom.now settings.now) response)) × («data».new ≡ over (data_of (memory eeprom.now settings.now) response) «data».old) }
 {
     match response {
-        Responses::Ack => 0,
-        Responses::Read { .. } => 0,
-        Responses::MemoryData(view) => {
-            let place = view.data;
-            put_memory(view.base, place.len, eeprom, data)
-        }
+        Responses::MemoryData(view) => put_memory(view.base, view.data.len, eeprom, data),
         Responses::FloatData(view) => put_words(view.base as usize, view.count, settings, data),
-        Responses::HardwareId(_) => 0,
-        Responses::FirLoadSize { .. } => 0,
-        Responses::ConfigChanged => 0,
-        Responses::Unk02 => 0,
-        Responses::Unknown { .. } => 0,
+        Responses::Ack
+        | Responses::Read { .. }
+        | Responses::HardwareId(_)
+        | Responses::FirLoadSize { .. }
+        | Responses::ConfigChanged
+        | Responses::Unk02
+        | Responses::Unknown { .. } => 0,
     }
 }
 
@@ -163,15 +129,13 @@ fn put_memory(base: u16, size: usize, eeprom: &[u8], data: &mut [u8]) -> usize
     requires { (size ≤ 1020) × (1020 ≤ length «data».old) }
     ensures { (result ≡ length (memory_part eeprom.now base size)) × («data».new ≡ over (memory_part eeprom.now base size) «data».old) }
 {
-    let fill = [0xffu8; LONGEST_PAYLOAD];
     let len = taken(base, size);
     let start = base as usize;
     let part = octets::part(eeprom, Place { start, len });
-    let end = part.len();
-    let rest = size - len;
-    octets::put(part, data);
-    octets::put(&fill[0..rest], &mut data[end..]);
-    end + rest
+    let end = part.len() + (size - len);
+    let _ = octets::put(part, data);
+    data[part.len()..end].fill(0xff);
+    end
 }
 
 // Words of the settings, so far as there are any.
@@ -179,42 +143,26 @@ fn put_words(base: usize, count: usize, settings: &[u32], data: &mut [u8]) -> us
     requires { (base ≤ 65535) × (count * 4 ≤ 1020) × (1020 ≤ length «data».old) }
     ensures { (result ≡ length (words_part settings.now base count)) × («data».new ≡ over (words_part settings.now base count) «data».old) }
 {
-    let mut i = 0;
-    while i < count {
-        if settings.len() <= base + i {
-            return i * 4;
-        }
-        let bytes = number::little_bytes32(settings[base + i]);
-        octets::put(&bytes, &mut data[i * 4..]);
-        i += 1;
+    let end = settings.len().min(base + count);
+    let words = &settings[base.min(end)..end];
+    for (i, word) in words.iter().enumerate() {
+        let _ = octets::put(&number::little_bytes::<4>(*word), &mut data[i * 4..]);
     }
-    i * 4
+    words.len() * 4
 }
 
-fn write_answer(response: Responses, payload: &[u8], framed: bool, out: &mut [u8]) -> Written
-    ensures { (written result, out.new) ≡ answer_into framed payload.now response out.old }
+// `framed` is handed down as a flag: the definition command_into, of which the public contracts are made, takes it so.
+fn write_answer(
+    response: Responses,
+    payload: &[u8],
+    framed: bool,
+    out: &mut [u8],
+) -> Result<usize, Refusal>
+    ensures { (outcome result, out.new) ≡ answer_into framed payload.now response out.old }
 {
     if framed {
-        return response.to_frame(payload, out);
-    }
-    response.to_bytes(payload, out)
-}
-
-// Stores where the answer was written.
-fn store_if(
-    answer: Written,
-    change: Change,
-    payload: &[u8],
-    eeprom: &mut [u8],
-    settings: &mut [u32],
-) -> Written
-    ensures { (written result, memory eeprom.new settings.new) ≡ store_if (writes_in payload.now change) (memory eeprom.old settings.old) (written answer) }
-{
-    match answer {
-        Written::Bytes(n) => {
-            store(change, payload, eeprom, settings);
-            Written::Bytes(n)
-        }
-        Written::Refused(k) => Written::Refused(k),
+        response.to_frame(payload, out)
+    } else {
+        response.to_bytes(payload, out)
     }
 }

@@ -4,7 +4,7 @@
 #![tactic(auto)]
 
 ghost use Rattle.std.specs.Prelude.{◌≡◌, length};
-ghost use Rattle.octets.specs.Outcome.{written};
+ghost use Rattle.octets.specs.Outcome.{outcome, on_accepted};
 ghost use Rattle.octets.specs.Place.{place_at};
 ghost use Rattle.numbers.specs.FixedPoint.{code_of, bits_of_code};
 ghost use Rattle.packet.specs.Frame.{frame_into};
@@ -15,13 +15,13 @@ ghost use Rattle.commands.specs.declared.Commands.TheVariants.{Unknown};
 ghost use Rattle.processor.specs.Memory.{memory};
 ghost use Rattle.saves.specs.Save.{saved_into};
 ghost use Rattle.saves.specs.Replay.{replay_of};
-ghost use Rattle.exports.specs.Answer.{in_number, written_number, out_number};
+ghost use Rattle.exports.specs.Answer.{number_of, in_number, out_number};
 
 use commands::Commands;
 use commands::decode::no_values;
 use numbers::fixed_point::FixedPoint;
 use numbers::float;
-use octets::{Done, Place, Written};
+use octets::{Place, Refusal};
 use saves::replay::replay;
 use saves::save::save;
 
@@ -41,12 +41,12 @@ pub extern "C" fn wovenpike_to_f32(code: u32) -> u32
     float::to_bits(FixedPoint::from_u32(code).to_f32())
 }
 
-fn number_of(answer: Written) -> u8
-    ensures { result ≡ written_number (written answer) }
+fn number_of<T: Drop>(answer: Result<T, Refusal>) -> u8
+    ensures { result ≡ number_of (on_accepted (λ value. tt) (outcome answer)) }
 {
     match answer {
-        Written::Bytes(_) => 0,
-        Written::Refused(k) => k,
+        Ok(_) => 0,
+        Err(refusal) => u8::from(refusal),
     }
 }
 
@@ -86,8 +86,5 @@ pub extern "C" fn wovenpike_save(eeprom: &[u8], settings: &[u32], out: &mut [u8]
 pub extern "C" fn wovenpike_replay(eeprom: &mut [u8], settings: &mut [u32], save: &[u8]) -> u8
     ensures { (result, memory eeprom.new settings.new) ≡ in_number (replay_of (memory eeprom.old settings.old) save.now) }
 {
-    match replay(eeprom, settings, save) {
-        Done::Done => 0,
-        Done::Refused(k) => k,
-    }
+    number_of(replay(eeprom, settings, save))
 }

@@ -1,27 +1,30 @@
--- Laws of sources: their numbers tell them apart, a device has at most seven, and what a loop over the entries of a
+-- Laws of sources: their numbers tell them apart, a device has at most seven, and what a search of the entries of a
 -- device finds is the first one under a key.
-use Prim.Native.Nat.{ℕ, ◌+◌, ◌<◌, ◌≤◌}
+use Prim.Native.Nat.{ℕ, zero, suc, ◌+◌, ◌-◌, ◌<◌, ◌≤◌}
 use mathlib.Core.Path.{◌≡◌, refl, sym, ap, ◌∙◌}
-use mathlib.Core.List.{List, [], ◌∷◌}
-use native.Mathlib.Numerals.{add-one}
+use mathlib.Core.List.{List, [], ◌∷◌, ◌++◌}
 use native.Mathlib.Omega.{arith}
-use lib.ListN.{length, drop, get_or, get_or-append, drop_of_length-le}
-use lib.Seq.{drop-cons}
+use lib.ListN.{length, take, get_or, set, replicate}
+use lib.Seq.{take_at, take_all}
+use mathlib.Core.Bool.{true, false}
+use denote.Enum.Bare.{sameb, same_true, same_false}
+use Rattle.facts.specs.contracts.source.Source.{the_type}
 use borrow.Author.Rules.{rules}
+use Rattle.std.specs.List.{HoldsAt, AllWithin}
 use Rattle.octets.specs.Choice.{if_eq}
 use Rattle.octets.proofs.Choosing.{same, other, either-eq}
-use Rattle.facts.specs.Source.{entry, mapping_of, seven_of, source_number, first_of, to_id}
+use Rattle.facts.specs.Source.{entry, numbered, mapping_of, seven_of, source_number, first_of, to_id}
 use Rattle.facts.specs.declared.source.Entry.{Entry}
 use Rattle.facts.specs.declared.source.Mapping.{Mapping}
 use Rattle.facts.specs.declared.source.Source.{Source}
 use Rattle.facts.specs.declared.source.Source.TheVariants.{NotInstalled, Analog, Toslink, Spdif, Usb, Aesebu, Rca, Xlr, Lan, I2S, Bluetooth, Hdmi}
 
 -- the source of a number
-abbrev numbered : ℕ → Source
-numbered n =
+abbrev source_of : ℕ → Source
+source_of n =
     get_or (NotInstalled ∷ Analog ∷ Toslink ∷ Spdif ∷ Usb ∷ Aesebu ∷ Rca ∷ Xlr ∷ Lan ∷ I2S ∷ Bluetooth ∷ Hdmi ∷ []) n NotInstalled
 
-back : (s : Source) → numbered (source_number s) ≡ s
+back : (s : Source) → source_of (source_number s) ≡ s
 back NotInstalled = refl
 back Analog = refl
 back Toslink = refl
@@ -37,7 +40,7 @@ back Hdmi = refl
 
 -- two sources with one number are the same source
 pub number-once : (s t : Source) → source_number s ≡ source_number t → s ≡ t
-number-once s t e = sym (back s) ∙ ap numbered e ∙ back t
+number-once s t e = sym (back s) ∙ ap source_of e ∙ back t
 
 -- so that the id is that of the first entry with the source itself
 pub own-id : (s : Source) (i : ℕ) (l : List Entry) → to_id s (entry s i ∷ l) ≡ i
@@ -56,41 +59,48 @@ pub at_most : (hw dsp : ℕ) → length (mapping_of hw dsp) ≤ 7
 unfolding mapping_of
 at_most hw dsp = search (chosen, rules) depth 20
 
--- the entry at a place of an answer
-abbrev pub at : Mapping → ℕ → Entry
-at m i = get_or m.entries i (entry NotInstalled 0)
+-- a list under its numbers, as the loop fills it in
+abbrev filler : Entry
+filler = entry NotInstalled 0
 
-module _ {m : Mapping} (l : List Entry) (e : m ≡ seven_of l) where
-  counted : m.count ≡ length l
-  counted = ap (λ (x : Mapping). x.count) e
+length_numbered : (n : ℕ) (l : List Source) → length (numbered n l) ≡ length l
+length_numbered n [] = refl
+length_numbered n (s ∷ l) = ap suc (length_numbered (n + 1) l)
 
-  front : {i : ℕ} → i < m.count → drop i l ≡ at m i ∷ drop (i + 1) l
-  front {i} h =
-      let k : i < length l = rw counted at h in
-      rw (e, add-one, get_or-append l _ _ i k, drop-cons l i (entry NotInstalled 0) k)
+pub numbered_next : (n i k m : ℕ) (l : List Source) (d : Source) → m ≡ n + i → i < length l
+    → set (numbered n (take i l) ++ replicate (suc k) filler) i (entry (get_or l i d) m) ≡ numbered n (take (suc i) l) ++ replicate k filler
+numbered_next n i k m [] d e h = absurd (omega arith)
+numbered_next n zero k m (s ∷ l) d e h = let same : m ≡ n = omega arith in ap (λ (j : ℕ). entry s j ∷ replicate k filler) same
+numbered_next n (suc i) k m (s ∷ l) d e h = ap (λ (rest : List Entry). entry s n ∷ rest) (numbered_next (n + 1) i k m l d (omega arith) (omega arith))
 
-pub inside : {m : Mapping} {i : ℕ} (hw dsp : ℕ) → m ≡ seven_of (mapping_of hw dsp) → i < m.count → i < 7
-inside hw dsp e h = omega (arith, counted (mapping_of hw dsp) e, at_most hw dsp)
+pub numbered_all : (n i : ℕ) (l : List Source) {es : List Entry} → i ≡ length l → n ≡ length l → es ≡ numbered 0 (take i l) ++ replicate (7 - i) filler
+    → ◌≡◌ {A = Mapping} (record { count = n; entries = es }) (seven_of (numbered 0 l))
+numbered_all n i l a b e = rw (e, b, a, take_all (length l) l (omega arith), length_numbered 0 l)
 
--- the first i entries of an answer are under other keys
-pub record Passed {A : Type 0} (key : Entry → ℕ) (k : ℕ) (value : Entry → A) (none : A) (m : Mapping) (i : ℕ) : Type 0 where
-  pub rest : (l : List Entry) → m ≡ seven_of l → first_of key k value none (drop i l) ≡ first_of key k value none l
+-- equal sources have one number, and others have others
+pub same_number : (s t : Source) → true ≡ sameb the_type s t → source_number s ≡ source_number t
+same_number s t e = ap source_number (same_true the_type (search rules) s t (sym e))
 
-module _ {A : Type 0} {key : Entry → ℕ} {k : ℕ} {value : Entry → A} {none : A} {m : Mapping} where
-  pub start : Passed key k value none m 0
-  start = record { rest = λ l e. refl }
+pub other_number : (s t : Source) → false ≡ sameb the_type s t → source_number s ≡ source_number t → ⊥
+other_number s t e h = same_false the_type s t (sym e) (number-once s t h)
 
-  module _ {i : ℕ} (p : Passed key k value none m i) where
-    pub next : i < m.count → (key (at m i) ≡ k → ⊥) → Passed key k value none m (i + 1)
-    unfolding first_of
-    next h q = record {
-      rest = λ l e. other _ _ _ _ _ q refl ∙ sym (ap (first_of key k value none) (front l e h)) ∙ p.rest l e;
-    }
+-- the entries of an answer are the list that it was made of
+pub entries_of : (l : List Entry) {m : Mapping} {x : List Entry} → m ≡ seven_of l → x ≡ take m.count m.entries → x ≡ l
+entries_of l e h = rw e at h ∙ take_at l _ (length l) refl
 
-    pub hit : (l : List Entry) → m ≡ seven_of l → i < m.count → key (at m i) ≡ k → value (at m i) ≡ first_of key k value none l
-    unfolding first_of
-    hit l e h q = same _ _ _ _ _ q refl ∙ sym (ap (first_of key k value none) (front l e h)) ∙ p.rest l e
+-- what a search for the first entry under a key finds
+module _ {A : Type 0} (key : Entry → ℕ) (k : ℕ) (value : Entry → A) (none : A) where
+  abbrev pub Other : Entry → Type 0
+  Other e = key e ≡ k → ⊥
 
-    pub out : (l : List Entry) → m ≡ seven_of l → m.count ≤ i → none ≡ first_of key k value none l
-    unfolding first_of
-    out l e h = sym (ap (first_of key k value none) (drop_of_length-le l (rw (counted l e) at h))) ∙ p.rest l e
+  pub not_found : (l : List Entry) → AllWithin Other l 0 (length l) → none ≡ first_of key k value none l
+  unfolding first_of
+  not_found [] h = refl
+  not_found (e ∷ l) h = other _ _ _ _ _ (h 0 e (omega arith) (omega arith)) (not_found l (λ i d g j. h (suc i) d (omega arith) (omega arith)))
+
+  pub found : (l : List Entry) (x : Entry) → key x ≡ k → (i : ℕ) → i < length l → HoldsAt (λ y. y ≡ x) l i → AllWithin Other l 0 i → value x ≡ first_of key k value none l
+  unfolding first_of
+  found [] x h i g at before = absurd (omega arith)
+  found (e ∷ l) x h zero g at before = let is : e ≡ x = at e in same _ _ _ _ _ (ap key is ∙ h) (ap value (sym is))
+  found (e ∷ l) x h (suc i) g at before =
+      other _ _ _ _ _ (before 0 e (omega arith) (omega arith)) (found l x h i (omega arith) at (λ j d f m. before (suc j) d (omega arith) (omega arith)))

@@ -1,5 +1,5 @@
 -- Input sources and their numbers, by hardware id and dsp version, as the Rust has them. (source.rs)
-use Rattle.std.specs.Prelude.{ℕ, ◌-◌, List, [], ◌∷◌, ◌++◌, length, replicate}
+use Rattle.std.specs.Prelude.{ℕ, ◌+◌, ◌-◌, List, [], ◌∷◌, ◌++◌, length, replicate}
 use Rattle.octets.specs.Choice.{if_eq, if_in}
 use Rattle.facts.specs.declared.source.Source.{Source}
 use Rattle.facts.specs.declared.source.Source.TheVariants.{NotInstalled, Analog, Toslink, Spdif, Usb, Aesebu, Rca, Xlr, Lan, I2S, Bluetooth, Hdmi}
@@ -30,6 +30,11 @@ mapping_of hw dsp =
 -- a list as the answer holds it: its entries first, and the same filler in each place that is left of seven
 abbrev pub seven_of : List Entry → Mapping
 seven_of entries = record { count = length entries; entries = entries ++ replicate (7 - length entries) (entry NotInstalled 0) }
+
+-- sources under their numbers, one after the other from n on
+abbrev pub numbered : ℕ → List Source → List Entry
+numbered n [] = []
+numbered n (s ∷ rest) = entry s n ∷ numbered (n + 1) rest
 
 -- sources are told apart by a number for each
 abbrev pub source_number : Source → ℕ

@@ -12,7 +12,7 @@ pub mod probe;
 pub mod source;
 
 // A device's hardware id and dsp version, with its firmware and serial number.
-#[derive(Clone, Copy)]
+#[derive(Clone, Copy, Debug, PartialEq, Eq)]
 pub struct DeviceInfo {
     pub hw_id: u8,
     pub fw_major: u8,
@@ -22,7 +22,7 @@ pub struct DeviceInfo {
 }
 
 // What a device answers when it is asked for its hardware id.
-#[derive(Clone, Copy)]
+#[derive(Clone, Copy, Debug, PartialEq, Eq)]
 pub struct HardwareId {
     pub fw_major: u8,
     pub fw_minor: u8,
@@ -42,15 +42,6 @@ impl DeviceInfo {
     pub fn supports_dirac(self) -> bool
         ensures { result ≡ supports_dirac self.dsp_version }
     {
-        let version = self.dsp_version;
-        // an arm for each number: `94 | 95` in one arm would be a test of a range
-        match version {
-            61 => true,
-            94 => true,
-            95 => true,
-            101 => true,
-            105 => true,
-            _ => false,
-        }
+        matches!(self.dsp_version, 61 | 94 | 95 | 101 | 105)
     }
 }

@@ -6,7 +6,7 @@ ghost use Rattle.facts.specs.DeviceInfo.{device_kind};
 use crate::DeviceInfo;
 use DeviceKind::*;
 
-#[derive(Clone, Copy)]
+#[derive(Clone, Copy, Debug, PartialEq, Eq)]
 pub enum DeviceKind {
     Generic,
     M4x10Hd,
@@ -24,6 +24,7 @@ pub enum DeviceKind {
 }
 
 impl DeviceKind {
+    // no derived Default: its contract has the trait's words, and this one, which may not change, says `Generic`
     pub fn default() -> Self
         ensures { result ≡ Generic }
     {
@@ -36,41 +37,19 @@ impl DeviceKind {
 pub fn probe_kind(info: DeviceInfo) -> DeviceKind
     ensures { result ≡ device_kind info.hw_id info.dsp_version }
 {
-    let hw = info.hw_id;
-    let dsp = info.dsp_version;
-    match hw {
-        1 => match dsp {
-            51 => M10x10Hd,
-            _ => M4x10Hd,
-        },
-        4 => MSharc4x8,
-        10 => match dsp {
-            100 => M2x4Hd,
-            101 => DDRC24,
-            _ => Generic,
-        },
-        6 => match dsp {
-            95 => DDRC88BM,
-            _ => Generic,
-        },
-        14 => Shd,
-        2 => match dsp {
-            54 => Nanodigi2x8,
-            22 => M2x4,
-            _ => Generic,
-        },
-        11 => match dsp {
-            97 => C8x12v2,
-            _ => Generic,
-        },
-        27 => match dsp {
-            100 => Flex,
-            _ => Generic,
-        },
-        32 => match dsp {
-            115 => FlexHtx,
-            _ => Generic,
-        },
+    match (info.hw_id, info.dsp_version) {
+        (1, 51) => M10x10Hd,
+        (1, _) => M4x10Hd,
+        (4, _) => MSharc4x8,
+        (10, 100) => M2x4Hd,
+        (10, 101) => DDRC24,
+        (6, 95) => DDRC88BM,
+        (14, _) => Shd,
+        (2, 54) => Nanodigi2x8,
+        (11, 97) => C8x12v2,
+        (2, 22) => M2x4,
+        (27, 100) => Flex,
+        (32, 115) => FlexHtx,
         _ => Generic,
     }
 }

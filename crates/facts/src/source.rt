@@ -1,11 +1,11 @@
 // Input sources and their numbers, by device. (source.rs)
-ghost use Rattle.std.specs.Prelude.{◌≡◌, [], ◌∷◌};
-ghost use Rattle.facts.specs.Source.{entry, seven_of, mapping_of, source_number, from_id, to_id};
+ghost use Rattle.std.specs.Prelude.{◌≡◌, ◌≤◌, take};
+ghost use Rattle.facts.specs.Source.{numbered, seven_of, mapping_of, source_number, from_id, to_id};
 
 use crate::DeviceInfo;
 use Source::*;
 
-#[derive(Clone, Copy)]
+#[derive(Clone, Copy, Debug, PartialEq, Eq)]
 pub enum Source {
     NotInstalled,
     Analog,
@@ -21,14 +21,14 @@ pub enum Source {
     Hdmi,
 }
 
-#[derive(Clone, Copy)]
+#[derive(Clone, Copy, Debug, PartialEq, Eq)]
 pub struct Entry {
     pub source: Source,
     pub id: u8,
 }
 
 // The first count entries are a device's; the others are unused.
-#[derive(Clone, Copy)]
+#[derive(Clone, Copy, Debug, PartialEq, Eq)]
 pub struct Mapping {
     pub count: usize,
     pub entries: [Entry; 7],
@@ -39,11 +39,15 @@ const UNUSED: Entry = Entry {
     id: 0,
 };
 
-// Where nothing is known of a device: one entry, that none is installed.
-const NONE: Mapping = Mapping {
-    count: 1,
-    entries: [UNUSED; 7],
-};
+impl Mapping {
+    // A device's entries.
+    fn used(&self) -> &[Entry]
+        requires { self.now.count ≤ 7 }
+        ensures { result.now ≡ take self.now.count self.now.entries }
+    {
+        &self.entries[..self.count]
+    }
+}
 
 impl Source {
     // The available input sources with their numbers. Every device numbers its own from 0.
@@ -51,26 +55,18 @@ impl Source {
     pub fn mapping(info: DeviceInfo) -> Mapping
         ensures { result ≡ seven_of (mapping_of info.hw_id info.dsp_version) }
     {
-        let hw = info.hw_id;
-        let dsp = info.dsp_version;
-        // an arm for each number: `4 | 5` in one arm would be a test of a range
-        match hw {
-            2 => two(Toslink, Spdif),
-            11 => two(Toslink, Spdif),
-            1 => three(Spdif, Toslink, Aesebu),
-            4 => three(Spdif, Toslink, Aesebu),
-            5 => three(Spdif, Toslink, Aesebu),
-            10 => match dsp {
-                100 => three(Analog, Toslink, Usb),
-                101 => three(Analog, Toslink, Usb),
-                _ => three(I2S, Toslink, Usb),
+        match info.hw_id {
+            2 | 11 => listed([Toslink, Spdif]),
+            1 | 4 | 5 => listed([Spdif, Toslink, Aesebu]),
+            10 => match info.dsp_version {
+                100 | 101 => listed([Analog, Toslink, Usb]),
+                _ => listed([I2S, Toslink, Usb]),
             },
-            14 => seven(Toslink, Spdif, Aesebu, Rca, Xlr, Usb, Lan),
-            17 => five(Toslink, Spdif, Aesebu, Usb, Lan),
-            18 => five(Toslink, Spdif, Aesebu, Usb, Lan),
-            27 => five(Analog, Toslink, Spdif, Usb, Bluetooth),
-            32 => five(Analog, Toslink, Spdif, Usb, Hdmi),
-            _ => NONE,
+            14 => listed([Toslink, Spdif, Aesebu, Rca, Xlr, Usb, Lan]),
+            17 | 18 => listed([Toslink, Spdif, Aesebu, Usb, Lan]),
+            27 => listed([Analog, Toslink, Spdif, Usb, Bluetooth]),
+            32 => listed([Analog, Toslink, Spdif, Usb, Hdmi]),
+            _ => listed([NotInstalled]),
         }
     }
 
@@ -78,34 +74,22 @@ impl Source {
     pub fn from_id(id: u8, info: DeviceInfo) -> Source
         ensures { result ≡ from_id id (mapping_of info.hw_id info.dsp_version) }
     {
-        let m = Source::mapping(info);
-        let mut i = 0;
-        while i < m.count {
-            let e = m.entries[i];
-            if e.id == id {
-                return e.source;
-            }
-            i += 1;
+        let mapping = Source::mapping(info);
+        match mapping.used().iter().find(|entry| entry.id == id) {
+            Some(entry) => entry.source,
+            None => Source::NotInstalled,
         }
-        Source::NotInstalled
     }
 
     // The number that a device has for a source.
     pub fn to_id(self, info: DeviceInfo) -> u8
         ensures { result ≡ to_id self (mapping_of info.hw_id info.dsp_version) }
     {
-        let m = Source::mapping(info);
-        let wanted = source_number(self);
-        let mut i = 0;
-        while i < m.count {
-            let e = m.entries[i];
-            let source = e.source;
-            if source_number(source) == wanted {
-                return e.id;
-            }
-            i += 1;
+        let mapping = Source::mapping(info);
+        match mapping.used().iter().find(|entry| entry.source == self) {
+            Some(entry) => entry.id,
+            None => 0,
         }
-        0
     }
 }
 
@@ -113,58 +97,20 @@ impl Source {
 pub fn source_number(source: Source) -> u8
     ensures { result ≡ source_number source }
 {
-    match source {
-        NotInstalled => 0,
-        Analog => 1,
-        Toslink => 2,
-        Spdif => 3,
-        Usb => 4,
-        Aesebu => 5,
-        Rca => 6,
-        Xlr => 7,
-        Lan => 8,
-        I2S => 9,
-        Bluetooth => 10,
-        Hdmi => 11,
+    source as u8
+}
+
+// A list of sources, numbered from 0.
+fn listed<const N: usize>(sources: [Source; N]) -> Mapping
+    requires { N ≤ 7 }
+    ensures { result ≡ seven_of (numbered 0 sources.entry) }
+{
+    let mut entries = [UNUSED; 7];
+    for (i, source) in sources.iter().enumerate() {
+        entries[i] = Entry {
+            source: *source,
+            id: i as u8,
+        };
     }
-}
-
-// Lists of two, three, five and seven sources, numbered from 0.
-fn two(a: Source, b: Source) -> Mapping
-    ensures { result ≡ seven_of (entry a 0 ∷ entry b 1 ∷ []) }
-{
-    let mut m = NONE;
-    m.entries[0] = Entry { source: a, id: 0 };
-    m.entries[1] = Entry { source: b, id: 1 };
-    m.count = 2;
-    m
-}
-
-fn three(a: Source, b: Source, c: Source) -> Mapping
-    ensures { result ≡ seven_of (entry a 0 ∷ entry b 1 ∷ entry c 2 ∷ []) }
-{
-    let mut m = two(a, b);
-    m.entries[2] = Entry { source: c, id: 2 };
-    m.count = 3;
-    m
-}
-
-fn five(a: Source, b: Source, c: Source, d: Source, e: Source) -> Mapping
-    ensures { result ≡ seven_of (entry a 0 ∷ entry b 1 ∷ entry c 2 ∷ entry d 3 ∷ entry e 4 ∷ []) }
-{
-    let mut m = three(a, b, c);
-    m.entries[3] = Entry { source: d, id: 3 };
-    m.entries[4] = Entry { source: e, id: 4 };
-    m.count = 5;
-    m
-}
-
-fn seven(a: Source, b: Source, c: Source, d: Source, e: Source, f: Source, g: Source) -> Mapping
-    ensures { result ≡ seven_of (entry a 0 ∷ entry b 1 ∷ entry c 2 ∷ entry d 3 ∷ entry e 4 ∷ entry f 5 ∷ entry g 6 ∷ []) }
-{
-    let mut m = five(a, b, c, d, e);
-    m.entries[5] = Entry { source: f, id: 5 };
-    m.entries[6] = Entry { source: g, id: 6 };
-    m.count = 7;
-    m
+    Mapping { count: N, entries }
 }

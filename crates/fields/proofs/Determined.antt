@@ -1,19 +1,13 @@
 -- Each public function's contract fixes its answer and what it leaves.
-use Rattle.std.proofs.Common.{◌≡◌, ℕ, Bool, List, [], ◌∷◌, refl}
-use Rattle.octets.specs.Outcome.{written}
-use Rattle.octets.specs.declared.Written.{Written}
+use Rattle.std.specs.Prelude.{Result}
+use Rattle.octets.specs.declared.refusal.Refusal.{Refusal}
+use Rattle.std.proofs.Common.{ℕ, Bool, List}
+use Rattle.octets.specs.Outcome.{outcome}
 use Rattle.octets.proofs.Agree.{Fixes, agree, both}
-use Rattle.octets.proofs.Determined.{written_once}
-use Rattle.fields.specs.Addr.{read_addr}
-use Rattle.fields.specs.Value.{read_value}
-use Rattle.fields.specs.Row.{fields_of}
+use Rattle.octets.proofs.Determined.{outcome_once}
 use Rattle.fields.specs.declared.addr.Addr.{Addr}
-use Rattle.fields.specs.declared.addr.ReadAddr.{ReadAddr}
-use Rattle.fields.specs.declared.addr.ReadAddr.TheVariants.{Is as AddrIs, Refused as NoAddr}
 use Rattle.fields.specs.declared.value.Value.{Value}
-use Rattle.fields.specs.declared.value.ReadValue.{ReadValue}
-use Rattle.fields.specs.declared.value.ReadValue.TheVariants.{Is as ValueIs, Refused as NoValue}
-use Rattle.fields.specs.declared.row.Cell.{Cell}
+use Rattle.fields.specs.declared.row.Field.{Field}
 use Rattle.fields.proofs.addr.Addr.new.Reads as new
 use Rattle.fields.proofs.addr.Addr.new_with_extra_bit.Reads as new-with-extra-bit
 use Rattle.fields.proofs.addr.Addr.width.Reads as width
@@ -33,34 +27,10 @@ use Rattle.fields.proofs.row.row1.Reads as row1
 use Rattle.fields.proofs.row.row2.Reads as row2
 use Rattle.fields.proofs.row.row3.Reads as row3
 use Rattle.fields.proofs.row.row4.Reads as row4
-use Rattle.fields.proofs.value.Value.default.Reads as value-default
+use Rattle.fields.proofs.value.ValueDefault.default.Reads as value-default
 use Rattle.fields.proofs.value.Value.from_f32.Reads as from-f32
 use Rattle.fields.proofs.value.Value.from_fixed_point.Reads as from-fixed-point
 use Rattle.fields.proofs.value.Value.from_u16.Reads as from-u16
-
--- an answer is known by its reading
-pub addr-once : (a b : ReadAddr) → read_addr a ≡ read_addr b → a ≡ b
-addr-once (AddrIs x) (AddrIs y) e = cc
-addr-once (AddrIs x) (NoAddr k) e = cc
-addr-once (NoAddr k) (AddrIs y) e = cc
-addr-once (NoAddr j) (NoAddr k) e = cc
-
-pub value-once : (a b : ReadValue) → read_value a ≡ read_value b → a ≡ b
-value-once (ValueIs x) (ValueIs y) e = cc
-value-once (ValueIs x) (NoValue k) e = cc
-value-once (NoValue k) (ValueIs y) e = cc
-value-once (NoValue j) (NoValue k) e = cc
-
--- and a row by its fields
-pub row-once : (a b : List Cell) → fields_of a ≡ fields_of b → a ≡ b
-unfolding fields_of
-row-once [] [] e = refl
-row-once [] (d ∷ ds) e = cc
-row-once (c ∷ cs) [] e = cc
-row-once (c ∷ cs) (d ∷ ds) e =
-    let f : c.field ≡ d.field = cc in
-    let t : cs ≡ ds = row-once cs ds (cc) in
-    λ i. record { field = f i } ∷ t i
 
 pub new-fixed : Fixes Addr new.Post (λ κs answer left. answer)
 new-fixed κs args a b x y p q = agree p q
@@ -74,23 +44,23 @@ width-fixed κs args a b x y p q = agree p.0 q.0
 pub addr-at-fixed : Fixes Addr addr_at.Post (λ κs answer left. answer)
 addr-at-fixed κs args a b x y p q = agree p q
 
-pub read-fixed : Fixes ReadAddr read.Post (λ κs answer left. answer)
-read-fixed κs args a b x y p q = addr-once a b (agree p q)
+pub read-fixed : Fixes (Result Addr Refusal) read.Post (λ κs answer left. answer)
+read-fixed κs args a b x y p q = outcome_once a b (agree p q)
 
-pub read-u16-fixed : Fixes ReadAddr read-u16.Post (λ κs answer left. answer)
-read-u16-fixed κs args a b x y p q = addr-once a b (agree p q)
+pub read-u16-fixed : Fixes (Result Addr Refusal) read-u16.Post (λ κs answer left. answer)
+read-u16-fixed κs args a b x y p q = outcome_once a b (agree p q)
 
-pub read-u24-fixed : Fixes ReadAddr read-u24.Post (λ κs answer left. answer)
-read-u24-fixed κs args a b x y p q = addr-once a b (agree p q)
+pub read-u24-fixed : Fixes (Result Addr Refusal) read-u24.Post (λ κs answer left. answer)
+read-u24-fixed κs args a b x y p q = outcome_once a b (agree p q)
 
 pub has-wrong-length-fixed : Fixes Bool has-wrong-length.Post (λ κs answer left. answer)
 has-wrong-length-fixed κs args a b x y p q = agree p q
 
-pub addr-write-fixed : Fixes (Written × List ℕ) addr-write.Post (λ κs answer left. (answer, left.1.0.now))
-addr-write-fixed κs args a b x y p q = both written written_once (agree p q)
+pub addr-write-fixed : Fixes (Result ℕ Refusal × List ℕ) addr-write.Post (λ κs answer left. (answer, left.1.0.now))
+addr-write-fixed κs args a b x y p q = both outcome outcome_once (agree p q)
 
-pub from-bytes-fixed : Fixes ReadValue from_bytes.Post (λ κs answer left. answer)
-from-bytes-fixed κs args a b x y p q = value-once a b (agree p q)
+pub from-bytes-fixed : Fixes (Result Value Refusal) from_bytes.Post (λ κs answer left. answer)
+from-bytes-fixed κs args a b x y p q = outcome_once a b (agree p q)
 
 pub value-at-fixed : Fixes Value value-at.Post (λ κs answer left. answer)
 value-at-fixed κs args a b x y p q = agree p q
@@ -98,26 +68,26 @@ value-at-fixed κs args a b x y p q = agree p q
 pub is-outside-fixed : Fixes Bool is-outside.Post (λ κs answer left. answer)
 is-outside-fixed κs args a b x y p q = agree p q
 
-pub into-bytes-fixed : Fixes (Written × List ℕ) into-bytes.Post (λ κs answer left. (answer, left.1.1.0.now))
-into-bytes-fixed κs args a b x y p q = both written written_once (agree p q)
+pub into-bytes-fixed : Fixes (Result ℕ Refusal × List ℕ) into-bytes.Post (λ κs answer left. (answer, left.1.1.0.now))
+into-bytes-fixed κs args a b x y p q = both outcome outcome_once (agree p q)
 
-pub row-write-fixed : Fixes (Written × List ℕ) row_write.Post (λ κs answer left. (answer, left.1.1.0.now))
-row-write-fixed κs args a b x y p q = both written written_once (agree p q)
+pub row-write-fixed : Fixes (Result ℕ Refusal × List ℕ) row_write.Post (λ κs answer left. (answer, left.1.1.0.now))
+row-write-fixed κs args a b x y p q = both outcome outcome_once (agree p q)
 
-pub row-frame-fixed : Fixes (Written × List ℕ) row-frame.Post (λ κs answer left. (answer, left.1.1.0.now))
-row-frame-fixed κs args a b x y p q = both written written_once (agree p q)
+pub row-frame-fixed : Fixes (Result ℕ Refusal × List ℕ) row-frame.Post (λ κs answer left. (answer, left.1.1.0.now))
+row-frame-fixed κs args a b x y p q = both outcome outcome_once (agree p q)
 
-pub row1-fixed : Fixes (List Cell) row1.Post (λ κs answer left. answer)
-row1-fixed κs args a b x y p q = row-once a b (agree p q)
+pub row1-fixed : Fixes (List Field) row1.Post (λ κs answer left. answer)
+row1-fixed κs args a b x y p q = agree p q
 
-pub row2-fixed : Fixes (List Cell) row2.Post (λ κs answer left. answer)
-row2-fixed κs args a b x y p q = row-once a b (agree p q)
+pub row2-fixed : Fixes (List Field) row2.Post (λ κs answer left. answer)
+row2-fixed κs args a b x y p q = agree p q
 
-pub row3-fixed : Fixes (List Cell) row3.Post (λ κs answer left. answer)
-row3-fixed κs args a b x y p q = row-once a b (agree p q)
+pub row3-fixed : Fixes (List Field) row3.Post (λ κs answer left. answer)
+row3-fixed κs args a b x y p q = agree p q
 
-pub row4-fixed : Fixes (List Cell) row4.Post (λ κs answer left. answer)
-row4-fixed κs args a b x y p q = row-once a b (agree p q)
+pub row4-fixed : Fixes (List Field) row4.Post (λ κs answer left. answer)
+row4-fixed κs args a b x y p q = agree p q
 
 pub value-default-fixed : Fixes Value value-default.Post (λ κs answer left. answer)
 value-default-fixed κs args a b x y p q = agree p q

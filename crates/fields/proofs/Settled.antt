@@ -1,8 +1,9 @@
 -- What it tells that a row was settled, or refused.
-use Rattle.std.proofs.Common.{◌≡◌, ℕ, ◌≤◌, Bool, true, false, List, length, sym, refl, ap, arith}
+use Rattle.std.proofs.Common.{◌≡◌, ℕ, ◌≤◌, Bool, true, false, List, length, sym, refl, ap, ◌∙◌, arith}
 use Rattle.octets.specs.Refusals.{address_length, outside, too_long}
 use Rattle.octets.specs.Outcome.{Outcome, accepted, refused}
 use Rattle.octets.specs.Choice.{pick, if_lt}
+use Rattle.octets.specs.Over.{into}
 use Rattle.octets.proofs.Choosing.{above, either_lt}
 use Rattle.fields.specs.declared.row.Field.{Field}
 use Rattle.fields.specs.Row.{packet_of, misaddressed, misplaced, any_of, encoded_of}
@@ -31,12 +32,9 @@ module _ (p : List ℕ) (row : List Field) where
           (λ h e. clash e)
           (λ h e. let f : n ≡ length (packet_of p row) = cc in record { sound = record { addressed = i; placed = j }; is = rw (i, j) (sym (above _ _ _ _ _ h refl)); count = f; short = omega arith })
 
-  pub was-refused : (k : ℕ) → refused k ≡ encoded_length (encoded_of p row) → encoded_of p row ≡ refused k
-  was-refused k = go (encoded_of p row)
-    where
-      go : (o : Outcome (List ℕ)) → refused k ≡ encoded_length o → o ≡ refused k
-      go (accepted bytes) e = clash (sym e)
-      go (refused j) e = cc
+-- where there is room, all is written
+pub room-written : (w l : List ℕ) {r : Outcome ℕ} {o : List ℕ} → (r, o) ≡ into w l → length w ≤ length l → r ≡ accepted (length w)
+room-written w l e h = ap (λ (p : Outcome ℕ × List ℕ). p.0) (e ∙ sym (above _ _ _ _ _ h refl))
 
 -- what is known of a packet that was written
 pub record Written (p : List ℕ) (row : List Field) (packet : List ℕ) : Type 0 where

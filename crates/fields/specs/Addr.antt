@@ -6,15 +6,9 @@ use Rattle.octets.specs.Choice.{pick, if_lt, if_eq}
 use Rattle.octets.specs.Over.{into}
 use Rattle.octets.specs.Number.{big_at, big_bytes}
 use Rattle.fields.specs.declared.addr.Addr.{Addr}
-use Rattle.fields.specs.declared.addr.ReadAddr.{ReadAddr}
-use Rattle.fields.specs.declared.addr.ReadAddr.TheVariants.{Is, Refused}
 
 abbrev pub addr_of : ℕ → ℕ → Bool → Addr
 addr_of val len extra = record { val = val; len = len; extra_bit = extra }
-
-abbrev pub read_addr : ReadAddr → Outcome Addr
-read_addr (Is a) = accepted a
-read_addr (Refused k) = refused k
 
 -- an address takes three bytes or two
 abbrev pub width_if : Bool → ℕ

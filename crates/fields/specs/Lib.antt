@@ -1,11 +1,7 @@
 -- Types that only src/ declares. Numbers are ℕ here, a bool is Bool, an f32 is Float, an array is a List.
 -- type Addr: val u32, len u8, extra_bit bool
--- enum ReadAddr: Is(Addr), Refused(u8)
 -- enum Field: Nothing, Byte(u8), Word(u16), Address(Addr), Coded(Value), Payload(Place), Floats(start usize, count usize)
--- type Cell: field Field
 -- enum Value: Float(f32), FixedPoint(FixedPoint), Int(u16), Int32(u32), Unknown(Place)
--- type Coefficient: value Value
--- enum ReadValue: Is(Value), Refused(u8)
 pub mod Addr
 pub mod Value
 pub mod Row

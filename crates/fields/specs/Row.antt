@@ -9,7 +9,6 @@ use Rattle.octets.specs.Place.{floats_at, part_of, is_outside}
 use Rattle.packet.specs.Frame.{frame_of}
 use Rattle.fields.specs.Addr.{wrong_length, addr_bytes}
 use Rattle.fields.specs.Value.{value_bytes, value_outside}
-use Rattle.fields.specs.declared.row.Cell.{Cell}
 use Rattle.fields.specs.declared.row.Field.{Field}
 use Rattle.fields.specs.declared.row.Field.TheVariants.{Nothing, Byte, Word, Address, Coded, Payload, Floats}
 
@@ -65,10 +64,6 @@ abbrev pub row_frame_into : List ℕ → List Field → List ℕ → Outcome ℕ
 row_frame_into p row out = settle (encoded_of p row) frame_of out
 
 -- a row in an array of eight: what is not needed is Nothing
-unfoldable pub fields_of : List Cell → List Field
-fields_of [] = []
-fields_of (c ∷ cs) = c.field ∷ fields_of cs
-
 unfoldable pub nothings : ℕ → List Field
 nothings zero = []
 nothings (suc k) = Nothing ∷ nothings k

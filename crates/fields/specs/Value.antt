@@ -1,5 +1,5 @@
 -- Values, as document 01 has them under "Commands and responses".
-use Rattle.std.specs.Prelude.{ℕ, ◌+◌, Bool, true, false, List, length, to_bits}
+use Rattle.std.specs.Prelude.{ℕ, ◌+◌, Bool, false, List, length, to_bits}
 use Rattle.std.specs.Float.{binary32}
 use Rattle.octets.specs.Refusals.{outside}
 use Rattle.octets.specs.Outcome.{Outcome, accepted, refused}
@@ -10,12 +10,6 @@ use Rattle.octets.specs.Place.{part_of, is_outside}
 use Rattle.octets.specs.declared.Place.{Place}
 use Rattle.fields.specs.declared.value.Value.{Value}
 use Rattle.fields.specs.declared.value.Value.TheVariants.{Float, FixedPoint, Int, Int32, Unknown}
-use Rattle.fields.specs.declared.value.ReadValue.{ReadValue}
-use Rattle.fields.specs.declared.value.ReadValue.TheVariants.{Is, Refused}
-
-abbrev pub read_value : ReadValue → Outcome Value
-read_value (Is v) = accepted v
-read_value (Refused k) = refused k
 
 -- "A value of exactly 4 bytes whose last two are 0 and first two not both 0 is Int, little-endian; every other is Unknown."
 unfoldable pub value_at : List ℕ → Place → Value

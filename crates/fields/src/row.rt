@@ -1,18 +1,18 @@
 // A packet as a row of fields, and the one writer of all packets. Everything is settled on the row
 // before anything is written.
 ghost use Rattle.std.specs.Prelude.{◌≡◌, ◌*◌, ◌≤◌, min, false, [], ◌∷◌, length};
-ghost use Rattle.octets.specs.Outcome.{written};
-ghost use Rattle.octets.specs.Over.{over, into};
+ghost use Rattle.std.specs.List.{list_any};
+ghost use Rattle.octets.specs.Outcome.{outcome};
+ghost use Rattle.octets.specs.Over.{into};
 ghost use Rattle.octets.specs.Place.{floats_at, part_of, is_outside};
-ghost use Rattle.packet.specs.Frame.{checksum_of};
-ghost use Rattle.packet.specs.Summing.{SumOf};
+ghost use Rattle.packet.specs.Summing.{wrote, SumOf};
 ghost use Rattle.fields.specs.Value.{value_bytes, value_outside};
-ghost use Rattle.fields.specs.Row.{field_bytes, packet_of, misaddressed, misplaced, any_of, encoded_of, row_into, row_frame_into, fields_of, padded};
+ghost use Rattle.fields.specs.Row.{field_bytes, packet_of, misaddressed, misplaced, encoded_of, row_into, row_frame_into, padded};
 ghost use Rattle.fields.specs.Inside.{Writable, AllWritable, encoded_length};
 
 use crate::addr::Addr;
 use crate::value::Value;
-use octets::{Place, Written, number, refusal};
+use octets::{Place, Refusal, number};
 use packet::Summed;
 
 // A field of a packet. A payload and floats stand in lent bytes; a float takes four of them.
@@ -27,23 +27,12 @@ pub enum Field {
     Floats { start: usize, count: usize },
 }
 
-// A field in an array.
-#[derive(Clone, Copy)]
-pub struct Cell {
-    pub field: Field,
-}
-
 fn is_misaddressed(field: Field) -> bool
     ensures { result ≡ misaddressed field }
 {
     match field {
-        Field::Nothing => false,
-        Field::Byte(_) => false,
-        Field::Word(_) => false,
         Field::Address(a) => a.has_wrong_length(),
-        Field::Coded(_) => false,
-        Field::Payload(_) => false,
-        Field::Floats { start: _, count: _ } => false,
+        _ => false,
     }
 }
 
@@ -51,44 +40,23 @@ fn is_misplaced(field: Field, have: usize) -> bool
     ensures { result ≡ misplaced have field }
 {
     match field {
-        Field::Nothing => false,
-        Field::Byte(_) => false,
-        Field::Word(_) => false,
-        Field::Address(_) => false,
         Field::Coded(value) => value.is_outside(have),
         Field::Payload(place) => octets::is_outside(place, have),
         Field::Floats { start, count } => octets::floats_outside(start, count, have),
+        _ => false,
     }
 }
 
-fn any_misaddressed(row: [Cell; 8]) -> bool
-    ensures { result ≡ any_of misaddressed (fields_of row) }
+fn any_misaddressed(row: [Field; 8]) -> bool
+    ensures { result ≡ list_any misaddressed row }
 {
-    let mut i = 0;
-    while i < 8 {
-        let cell = row[i];
-        let field = cell.field;
-        if is_misaddressed(field) {
-            return true;
-        }
-        i += 1;
-    }
-    false
+    row.iter().any(|field| is_misaddressed(*field))
 }
 
-fn any_misplaced(row: [Cell; 8], have: usize) -> bool
-    ensures { result ≡ any_of (misplaced have) (fields_of row) }
+fn any_misplaced(row: [Field; 8], have: usize) -> bool
+    ensures { result ≡ list_any (misplaced have) row }
 {
-    let mut i = 0;
-    while i < 8 {
-        let cell = row[i];
-        let field = cell.field;
-        if is_misplaced(field, have) {
-            return true;
-        }
-        i += 1;
-    }
-    false
+    row.iter().any(|field| is_misplaced(*field, have))
 }
 
 // How many bytes a field takes, and 255 where it is more: no packet is that long.
@@ -103,7 +71,7 @@ fn field_len(field: Field, payload: &[u8]) -> usize
         Field::Address(a) => a.len as usize,
         Field::Coded(value) => value_len(value, payload),
         Field::Payload(place) => capped(place.len),
-        Field::Floats { start: _, count } => floats_len(count),
+        Field::Floats { count, .. } => floats_len(count),
     }
 }
 
@@ -112,78 +80,61 @@ fn value_len(value: Value, payload: &[u8]) -> usize
     ensures { result ≡ min 255 (length (value_bytes value payload.now)) }
 {
     match value {
-        Value::Float(_) => 4,
-        Value::FixedPoint(_) => 4,
-        Value::Int(_) => 4,
-        Value::Int32(_) => 4,
         Value::Unknown(place) => capped(place.len),
+        _ => 4,
     }
 }
 
 fn capped(n: usize) -> usize
     ensures { result ≡ min 255 n }
 {
-    if 255 < n {
-        return 255;
-    }
-    n
+    n.min(255)
 }
 
 fn floats_len(count: usize) -> usize
     ensures { result ≡ min 255 (count * 4) }
 {
-    if 63 < count {
-        return 255;
-    }
-    count * 4
+    capped(count.saturating_mul(4))
 }
 
 // The same of a whole row.
-fn row_len(row: [Cell; 8], payload: &[u8]) -> usize
-    requires { AllWritable payload.now (fields_of row) }
-    ensures { result ≡ min 255 (length (packet_of payload.now (fields_of row))) }
+fn row_len(row: [Field; 8], payload: &[u8]) -> usize
+    requires { AllWritable payload.now row }
+    ensures { result ≡ min 255 (length (packet_of payload.now row)) }
 {
     let mut total = 0;
-    let mut i = 0;
-    while i < 8 {
-        let cell = row[i];
-        let field = cell.field;
-        let n = field_len(field, payload);
-        total = capped(total + n);
-        i += 1;
+    for field in &row {
+        total = capped(total + field_len(*field, payload));
     }
     total
 }
 
 // What writing the row comes to: how many bytes, at most 254, or 8, 7 or 5.
-fn settled(row: [Cell; 8], payload: &[u8]) -> Written
-    ensures { written result ≡ encoded_length (encoded_of payload.now (fields_of row)) }
+fn settled(row: [Field; 8], payload: &[u8]) -> Result<usize, Refusal>
+    ensures { outcome result ≡ encoded_length (encoded_of payload.now row) }
 {
     if any_misaddressed(row) {
-        return Written::Refused(refusal::ADDRESS_LENGTH);
+        return Err(Refusal::AddressLength);
     }
     if any_misplaced(row, payload.len()) {
-        return Written::Refused(refusal::OUTSIDE);
+        return Err(Refusal::Outside);
     }
     let n = row_len(row, payload);
     if packet::LONGEST_PACKET < n {
-        return Written::Refused(refusal::TOO_LONG);
+        return Err(Refusal::TooLong);
     }
-    Written::Bytes(n)
+    Ok(n)
 }
 
-fn put_field(field: Field, payload: &[u8], out: &mut [u8]) -> Summed
+fn put_field(field: Field, payload: &[u8], out: &mut [u8]) -> Result<Summed, Refusal>
     requires { Writable payload.now field }
-    ensures out_after { (written result.wrote, out.new) ≡ into (field_bytes payload.now field) out.old }
+    ensures out_after { (wrote result, out.new) ≡ into (field_bytes payload.now field) out.old }
     ensures sum_of { SumOf (field_bytes payload.now field) result }
 {
     match field {
-        Field::Nothing => Summed {
-            wrote: Written::Bytes(0),
-            sum: 0,
-        },
+        Field::Nothing => Ok(Summed { len: 0, sum: 0 }),
         Field::Byte(n) => packet::copy(&[n], out),
-        Field::Word(n) => packet::copy(&number::big_bytes16(n), out),
+        Field::Word(n) => packet::copy(&number::big_bytes::<2>(u32::from(n)), out),
         Field::Address(a) => a.put(out),
         Field::Coded(value) => value.put(payload, out),
         Field::Payload(place) => packet::copy(octets::part(payload, place), out),
@@ -191,104 +142,83 @@ fn put_field(field: Field, payload: &[u8], out: &mut [u8]) -> Summed
     }
 }
 
-fn put_floats(payload: &[u8], start: usize, count: usize, out: &mut [u8]) -> Summed
+fn put_floats(payload: &[u8], start: usize, count: usize, out: &mut [u8]) -> Result<Summed, Refusal>
     requires { is_outside (floats_at start count) (length payload.now) ≡ false }
-    ensures out_after { (written result.wrote, out.new) ≡ into (part_of payload.now (floats_at start count)) out.old }
+    ensures out_after { (wrote result, out.new) ≡ into (part_of payload.now (floats_at start count)) out.old }
     ensures sum_of { SumOf (part_of payload.now (floats_at start count)) result }
 {
     let len = count * 4;
     packet::copy(octets::part(payload, Place { start, len }), out)
 }
 
-// Writes the row over the start of out, field by field, and answers its sum.
-fn put_row(row: [Cell; 8], payload: &[u8], out: &mut [u8]) -> u8
-    requires all_writable { AllWritable payload.now (fields_of row) }
-    requires row_len_bound { length (packet_of payload.now (fields_of row)) ≤ 254 }
-    requires row_in_bounds { length (packet_of payload.now (fields_of row)) ≤ length out.old }
-    ensures out_after { out.new ≡ over (packet_of payload.now (fields_of row)) out.old }
-    ensures value { result ≡ checksum_of (packet_of payload.now (fields_of row)) }
+// Writes the row over the start of out, field by field, and adds it up.
+fn put_row(row: [Field; 8], payload: &[u8], out: &mut [u8]) -> Result<Summed, Refusal>
+    requires all_writable { AllWritable payload.now row }
+    requires row_len_bound { length (packet_of payload.now row) ≤ 254 }
+    requires row_in_bounds { length (packet_of payload.now row) ≤ length out.old }
+    ensures out_after { (wrote result, out.new) ≡ into (packet_of payload.now row) out.old }
+    ensures sum_of { SumOf (packet_of payload.now row) result }
 {
-    let mut at = 0;
+    let mut len = 0;
     let mut sum: u8 = 0;
-    let mut i = 0;
-    while i < 8 {
-        let cell = row[i];
-        let field = cell.field;
-        let n = field_len(field, payload);
-        let put = put_field(field, payload, &mut out[at..]);
-        sum = std::num::wrapping_add_u8(sum, put.sum);
-        at += n;
-        i += 1;
+    for field in &row {
+        let put = put_field(*field, payload, &mut out[len..])?;
+        sum = sum.wrapping_add(put.sum);
+        len += put.len;
     }
-    sum
+    Ok(Summed { len, sum })
 }
 
 // Writes the packet of a row over the start of out.
-pub fn write(row: [Cell; 8], payload: &[u8], out: &mut [u8]) -> Written
-    ensures { (written result, out.new) ≡ row_into payload.now (fields_of row) out.old }
+pub fn write(row: [Field; 8], payload: &[u8], out: &mut [u8]) -> Result<usize, Refusal>
+    ensures { (outcome result, out.new) ≡ row_into payload.now row out.old }
 {
-    match settled(row, payload) {
-        Written::Bytes(n) => {
-            if out.len() < n {
-                return Written::Refused(refusal::NO_ROOM);
-            }
-            put_row(row, payload, out);
-            Written::Bytes(n)
-        }
-        Written::Refused(k) => Written::Refused(k),
+    let n = settled(row, payload)?;
+    if out.len() < n {
+        return Err(Refusal::NoRoom);
     }
+    put_row(row, payload, out).map(|put| put.len)
 }
 
 // Writes the frame of a row's packet: the packet to out from its second byte onward, added up as it is
 // written, which is then closed.
-pub fn frame(row: [Cell; 8], payload: &[u8], out: &mut [u8]) -> Written
-    ensures { (written result, out.new) ≡ row_frame_into payload.now (fields_of row) out.old }
+pub fn frame(row: [Field; 8], payload: &[u8], out: &mut [u8]) -> Result<usize, Refusal>
+    ensures { (outcome result, out.new) ≡ row_frame_into payload.now row out.old }
 {
-    match settled(row, payload) {
-        Written::Bytes(n) => {
-            if out.len() < n + 2 {
-                return Written::Refused(refusal::NO_ROOM);
-            }
-            let sum = put_row(row, payload, &mut out[1..]);
-            packet::close_with(n, sum, out)
-        }
-        Written::Refused(k) => Written::Refused(k),
+    let n = settled(row, payload)?;
+    if out.len() < n + 2 {
+        return Err(Refusal::NoRoom);
     }
+    let put = put_row(row, payload, &mut out[1..])?;
+    packet::close_with(put.len, put.sum, out)
 }
 
 // Rows of one to four fields.
-pub fn row1(a: Field) -> [Cell; 8]
-    ensures { fields_of result ≡ padded (a ∷ []) }
+#[tactic(auto, unfolding(crate::specs::Row::padded, crate::specs::Row::nothings))]
+pub fn row1(a: Field) -> [Field; 8]
+    ensures { result ≡ padded (a ∷ []) }
 {
     row4(a, Field::Nothing, Field::Nothing, Field::Nothing)
 }
 
-pub fn row2(a: Field, b: Field) -> [Cell; 8]
-    ensures { fields_of result ≡ padded (a ∷ b ∷ []) }
+#[tactic(auto, unfolding(crate::specs::Row::padded, crate::specs::Row::nothings))]
+pub fn row2(a: Field, b: Field) -> [Field; 8]
+    ensures { result ≡ padded (a ∷ b ∷ []) }
 {
     row4(a, b, Field::Nothing, Field::Nothing)
 }
 
-pub fn row3(a: Field, b: Field, c: Field) -> [Cell; 8]
-    ensures { fields_of result ≡ padded (a ∷ b ∷ c ∷ []) }
+#[tactic(auto, unfolding(crate::specs::Row::padded, crate::specs::Row::nothings))]
+pub fn row3(a: Field, b: Field, c: Field) -> [Field; 8]
+    ensures { result ≡ padded (a ∷ b ∷ c ∷ []) }
 {
     row4(a, b, c, Field::Nothing)
 }
 
-pub fn row4(a: Field, b: Field, c: Field, d: Field) -> [Cell; 8]
-    ensures { fields_of result ≡ padded (a ∷ b ∷ c ∷ d ∷ []) }
+#[tactic(auto, unfolding(crate::specs::Row::padded, crate::specs::Row::nothings))]
+pub fn row4(a: Field, b: Field, c: Field, d: Field) -> [Field; 8]
+    ensures { result ≡ padded (a ∷ b ∷ c ∷ d ∷ []) }
 {
-    let none = Cell {
-        field: Field::Nothing,
-    };
-    [
-        Cell { field: a },
-        Cell { field: b },
-        Cell { field: c },
-        Cell { field: d },
-        none,
-        none,
-        none,
-        none,
-    ]
+    let none = Field::Nothing;
+    [a, b, c, d, none, none, none, none]
 }

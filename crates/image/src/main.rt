@@ -3,7 +3,6 @@
 #![tactic(auto)]
 
 use images::import::import;
-use octets::Done;
 use processor::LARGEST;
 use programs::lent::front;
 use programs::prints::*;
@@ -12,7 +11,6 @@ use std::env::FillError;
 use std::io;
 use std::io::Read;
 use std::rt::Env;
-use text::Number;
 
 // The most bytes of a text that is read: more than 65,536 rows of one byte take.
 const LONGEST_READ: usize = 1048576;
@@ -25,6 +23,7 @@ fn main(rt: HostRuntime) -> io::Result<()> {
     run(&rt, &mut rt.stdin(), &mut input, &mut image)
 }
 
+// Tried without it and slower: where `main` lends an array of a million elements as a slice, its check takes over a minute.
 fn run<R: Env + Print>(
     rt: &R,
     stdin: &mut impl Read,
@@ -32,21 +31,21 @@ fn run<R: Env + Print>(
     image: &mut [u8; 65537],
 ) -> io::Result<()> {
     match size(rt) {
-        Number::Is(n) => read_and_print(rt, stdin, n as usize, input, image),
-        Number::Bad => print(
+        Some(size) => read_and_print(rt, stdin, size as usize, input, image),
+        None => print(
             rt,
             b"bad argument 1: expected NUMBER, the size of the image\n",
         ),
     }
 }
 
-// An argument that does not fit in the word is put as an empty one, which is no number.
-fn size(rt: &impl Env) -> Number {
+// The size that the one argument says. One that does not fit in the word is no number.
+fn size(rt: &impl Env) -> Option<u32> {
     let mut word = [0u8; 32];
     match rt.arg(1, &mut word) {
-        Ok(n) => text::read_decimal(&word[0..n]),
-        Err(FillError::TooLong) => text::read_decimal(b""),
-        Err(FillError::NotPresent) => Number::Is(LARGEST as u32),
+        Ok(n) => text::read_decimal(&word[..n]),
+        Err(FillError::TooLong) => None,
+        Err(FillError::NotPresent) => Some(LARGEST as u32),
     }
 }
 
@@ -61,12 +60,12 @@ fn read_and_print(
     if LONGEST_READ < n {
         return print(rt, b"bad input: longer than 1048576 bytes\n");
     }
-    import_and_print(rt, &input[0..n], front(image, size))
+    import_and_print(rt, &input[..n], front(image, size))
 }
 
 fn import_and_print(rt: &impl Print, hex: &[u8], image: &mut [u8]) -> io::Result<()> {
     match import(hex, image) {
-        Done::Done => print(rt, image),
-        Done::Refused(number) => print_refusal(rt, number),
+        Ok(()) => print(rt, image),
+        Err(number) => print_refusal(rt, number),
     }
 }

@@ -10,15 +10,12 @@ use Rattle.octets.specs.Place.{place_at, part_of}
 use Rattle.octets.proofs.Choosing.{above, same, other, either_lt, either-eq}
 use Rattle.octets.proofs.Overlay.{length_over}
 use Rattle.octets.proofs.Parts.{length_part, part-part}
-use Rattle.text.specs.declared.Pairs.{Pairs}
-use Rattle.text.specs.declared.Pairs.TheVariants.{Bytes, Bad}
 use Rattle.text.specs.Read.{not_digits, pairs_in, pairs_into}
 use Rattle.text.proofs.Reading.{length-pairs-in}
 use Rattle.intel_hex.specs.Format.{hex_row}
 use Rattle.intel_hex.specs.Reading.{record_in, line_in}
-use Rattle.images.specs.Inside.{lined, Held, extent_of, extent_told}
-use Rattle.images.specs.declared.row.Line.{Line}
-use Rattle.images.specs.declared.row.Line.TheVariants.{Row, End, Refused}
+use Rattle.images.specs.Inside.{Line, lined, Held, extent_of, extent_told}
+use Rattle.std.specs.Prelude.{Ok, Err, Option as OrNone, Some, None}
 use Rattle.intel_hex.proofs.Letters.{octets-in}
 
 -- more bytes than the largest count asks for
@@ -30,8 +27,8 @@ take-over : (w l : List ℕ) (n : ℕ) → n ≡ length w → take n (over w l) 
 unfolding over
 take-over w l n h = take_at w (drop (length w) l) n (sym h)
 
-no_bytes_lem : (n : ℕ) (o o' : List ℕ) → ◌≡◌ {A = Pairs × List ℕ} (Bytes n, o) (Bad, o') → ⊥
-no_bytes_lem n o o' e = let z : Bytes n ≡ Bad = ap (λ (p : Pairs × List ℕ). p.0) e in let k : ◌≡◌ {A = ℕ} 0 1 = cc in omega arith
+no_bytes_lem : (n : ℕ) (o o' : List ℕ) → ◌≡◌ {A = OrNone ℕ × List ℕ} (Some n, o) (None, o') → ⊥
+no_bytes_lem n o o' e = let z : Some n ≡ None = ap (λ (p : OrNone ℕ × List ℕ). p.0) e in let k : ◌≡◌ {A = ℕ} 0 1 = cc in omega arith
 
 pub no-colon : (line : List ℕ) → (at line 0 ≡ 58 → ⊥) → refused malformed ≡ line_in line
 unfolding line_in
@@ -53,19 +50,19 @@ module _ (line : List ℕ) (colon : at line 0 ≡ 58) where
     pub says : line_in line ≡ record_in (pairs_in digits)
 
   module _ (out : List ℕ) (long : length out ≡ 260) where
-    pub well-read : (n : ℕ) (o : List ℕ) → (Bytes n, o) ≡ pairs_into digits out → Reading n o
+    pub well-read : (n : ℕ) (o : List ℕ) → (Some n, o) ≡ pairs_into digits out → Reading n o
     well-read n o = go (not_digits digits) refl
       where
-        P : Pairs × List ℕ → Type 0
-        P r = (Bytes n, o) ≡ r → Reading n o
+        P : OrNone ℕ × List ℕ → Type 0
+        P r = (Some n, o) ≡ r → Reading n o
 
-        go : (b : Bool) → not_digits digits ≡ b → P (pick b (Bad, out) (if_eq (length digits % 2) 1 (Bad, out) (if_lt (length out) (length digits / 2) (Bad, out) (Bytes (length digits / 2), over (pairs_in digits) out))))
+        go : (b : Bool) → not_digits digits ≡ b → P (pick b (None, out) (if_eq (length digits % 2) 1 (None, out) (if_lt (length out) (length digits / 2) (None, out) (Some (length digits / 2), over (pairs_in digits) out))))
         go true e = λ h. absurd (no_bytes_lem _ _ _ h)
         go false e =
             either-eq P _ _ _ _ (λ odd h. absurd (no_bytes_lem _ _ _ h))
-            (λ even. either_lt P _ _ _ _ (λ full h. absurd (no_bytes_lem _ _ _ h)) (λ room h. taken e even room (ap (λ (r : Pairs × List ℕ). r.0) h) (ap (λ (r : Pairs × List ℕ). r.1) h)))
+            (λ even. either_lt P _ _ _ _ (λ full h. absurd (no_bytes_lem _ _ _ h)) (λ room h. taken e even room (ap (λ (r : OrNone ℕ × List ℕ). r.0) h) (ap (λ (r : OrNone ℕ × List ℕ). r.1) h)))
           where
-            taken : not_digits digits ≡ false → (length digits % 2 ≡ 1 → ⊥) → length digits / 2 ≤ length out → Bytes n ≡ Bytes (length digits / 2) → o ≡ over (pairs_in digits) out → Reading n o
+            taken : not_digits digits ≡ false → (length digits % 2 ≡ 1 → ⊥) → length digits / 2 ≤ length out → Some n ≡ Some (length digits / 2) → o ≡ over (pairs_in digits) out → Reading n o
             taken e even room count is =
                 let m : n ≡ length (pairs_in digits) = rw length-pairs-in cc in
                 let fits : length (pairs_in digits) ≤ length out = rw length-pairs-in room in
@@ -76,13 +73,13 @@ module _ (line : List ℕ) (colon : at line 0 ≡ 58) where
                   says = by_digits false e ∙ ap (λ o. and_then o record_in) (sym (other _ _ _ _ _ even refl));
                 }
 
-    pub badly-read : (o : List ℕ) → (Bad, o) ≡ pairs_into digits out → refused malformed ≡ line_in line
+    pub badly-read : (o : List ℕ) → (None, o) ≡ pairs_into digits out → refused malformed ≡ line_in line
     badly-read o = go (not_digits digits) refl
       where
-        P : Pairs × List ℕ → Type 0
-        P r = (Bad, o) ≡ r → refused malformed ≡ line_in line
+        P : OrNone ℕ × List ℕ → Type 0
+        P r = (None, o) ≡ r → refused malformed ≡ line_in line
 
-        go : (b : Bool) → not_digits digits ≡ b → P (pick b (Bad, out) (if_eq (length digits % 2) 1 (Bad, out) (if_lt (length out) (length digits / 2) (Bad, out) (Bytes (length digits / 2), over (pairs_in digits) out))))
+        go : (b : Bool) → not_digits digits ≡ b → P (pick b (None, out) (if_eq (length digits % 2) 1 (None, out) (if_lt (length out) (length digits / 2) (None, out) (Some (length digits / 2), over (pairs_in digits) out))))
         go true e = λ h. sym (by_digits true e)
         go false e =
             either-eq P _ _ _ _ (λ odd h. sym (by_digits false e ∙ ap (λ o. and_then o record_in) (sym (same _ _ _ _ _ odd refl))))
@@ -96,14 +93,14 @@ module _ (line : List ℕ) (colon : at line 0 ≡ 58) where
 -- ---- the line, whichever buffer has its bytes
 pub longer : (r : Line) (n : ℕ) (o : List ℕ) → n ≤ length o → Held n r → lined (take n o) r ≡ lined o r
 unfolding part_of
-longer (Row start count) n o room h = ap (λ (bytes : List ℕ). accepted (some (hex_row start bytes))) (sym (part-part o 0 n 4 count (omega arith) (omega arith)))
-longer End n o room h = refl
-longer (Refused k) n o room h = refl
+longer (Ok (Some row)) n o room h = ap (λ (bytes : List ℕ). accepted (some (hex_row row.start bytes))) (sym (part-part o 0 n 4 row.count (omega arith) (omega arith)))
+longer (Ok None) n o room h = refl
+longer (Err k) n o room h = refl
 
 pub held_more : (r : Line) (n m : ℕ) → n ≤ m → Held n r → Held m r
-held_more (Row start count) n m h g = omega arith
-held_more End n m h g = tt
-held_more (Refused k) n m h g = tt
+held_more (Ok (Some row)) n m h g = omega arith
+held_more (Ok None) n m h g = tt
+held_more (Err k) n m h g = tt
 
 -- a record that is read at the start of the buffer
 pub line_read : (line : List ℕ) (colon : at line 0 ≡ 58) (n : ℕ) (o : List ℕ) → Reading line colon n o → (bytes : List ℕ) → bytes ≡ take n o
@@ -114,6 +111,6 @@ line_read line colon n o reading bytes e r h =
     (sym (longer r n o reading.room held) ∙ rw e at h.0 ∙ rw reading.front (sym reading.says), held_more r n 260 reading.short held)
 
 pub sizes-told : (r : Line) (o : List ℕ) → Held (length o) r → extent_told r ≡ on_accepted extent_of (lined o r)
-sizes-told (Row start count) o h = rw (length_part o (place_at 4 count) (omega arith))
-sizes-told End o h = refl
-sizes-told (Refused k) o h = refl
+sizes-told (Ok (Some row)) o h = rw (length_part o (place_at 4 row.count) (omega arith))
+sizes-told (Ok None) o h = refl
+sizes-told (Err k) o h = refl

@@ -12,16 +12,17 @@ use Rattle.intel_hex.specs.Format.{HexRow}
 use Rattle.intel_hex.specs.Reading.{lines_in, without_cr, line_in, fits_behind, rows_at_last, rows_behind, rows_from, rows_in}
 use Rattle.images.specs.Import.{judged_for, placed, filled, imported_into}
 use Rattle.images.specs.Inside.{first_line, behind_line, lined, with_row, rows_here, placed_line}
-use Rattle.images.specs.declared.row.Line.TheVariants.{Row}
+use Rattle.std.specs.Prelude.{Ok, Some}
+use Rattle.images.specs.declared.row.Row.{Row}
 use Rattle.intel_hex.proofs.Cut.{until-within, lines_at, lines-last, some-line}
 use Rattle.intel_hex.proofs.Texts.{go_on, end-only}
 use Rattle.images.proofs.Lines.{first_ended, first-unended}
 use Rattle.images.proofs.OneLine.{no-colon}
 
 -- ---- one line
-pub row-placed : (line bytes image o : List ℕ) (start count : ℕ) {r : Outcome ℕ} → lined bytes (Row start count) ≡ line_in line
-    → (r, o) ≡ into_at start (take (4 + count - 4) (drop 4 bytes)) image → (true, o) ≡ placed_line (line_in line) image
-row-placed line bytes image o start count h e = rw (← h, ← part-within bytes (place_at 4 count)) (ap (λ (p : Outcome ℕ × List ℕ). (true, p.1)) e)
+pub row-placed : (line bytes image o : List ℕ) (row : Row) {r : Outcome ℕ} → lined bytes (Ok (Some row)) ≡ line_in line
+    → (r, o) ≡ into_at row.start (take (4 + row.count - 4) (drop 4 bytes)) image → (true, o) ≡ placed_line (line_in line) image
+row-placed line bytes image o row h e = rw (← h, ← part-within bytes (place_at 4 row.count)) (ap (λ (p : Outcome ℕ × List ℕ). (true, p.1)) e)
 
 nothing_said : line_in [] ≡ refused 16
 nothing_said = sym (no-colon [] (λ e. omega arith))

@@ -1,7 +1,8 @@
 -- What the private functions promise.
 use Rattle.std.specs.Prelude.{◌≡◌, ℕ, ◌+◌, ◌/◌, ◌%◌, ◌^◌, ◌<◌, ◌≤◌, Bool, true, false, ◌⊎◌, List, [], ◌∷◌, ◌++◌, length, drop}
+use Rattle.std.specs.Prelude.{Result, Ok, Err, Option as OrNone, Some, None}
 use Rattle.std.proofs.Math.Option.{Option, none, some}
-use Rattle.octets.specs.Refusals.{outside, malformed, named_twice}
+use Rattle.octets.specs.Refusals.{number_of, outside, named_twice}
 use Rattle.octets.specs.Outcome.{Outcome, accepted, refused}
 use Rattle.octets.specs.Choice.{if_lt}
 use Rattle.octets.specs.Number.{at}
@@ -10,10 +11,11 @@ use Rattle.text.specs.Lines.{until_of}
 use Rattle.processor.specs.Memory.{put_at}
 use Rattle.intel_hex.specs.Format.{HexRow, hex_row}
 use Rattle.intel_hex.specs.Reading.{lines_in, without_cr, line_in, rows_from}
-use Rattle.images.specs.declared.row.Line.{Line}
-use Rattle.images.specs.declared.row.Line.TheVariants.{Row, End, Refused}
+use Rattle.octets.specs.declared.refusal.Refusal.{Refusal}
+use Rattle.octets.specs.declared.refusal.Refusal.TheVariants.{Malformed}
+use Rattle.images.specs.declared.row.Row.{Row}
 use Rattle.images.specs.declared.judge.Step.{Step}
-use Rattle.images.specs.declared.judge.Step.TheVariants.{Row as OneRow, End as AtEnd, Refused as Fault}
+use Rattle.images.specs.declared.judge.Step.TheVariants.{Row as OneRow, End as AtEnd}
 
 -- ---- lines
 abbrev pub first_line : List (List ℕ) → List ℕ
@@ -24,17 +26,21 @@ first_line (line ∷ next ∷ lines) = without_cr line
 abbrev pub behind_line : List ℕ → List ℕ
 behind_line l = drop (until_of 10 l + 1) l
 
+-- a row, or none for the end record
+abbrev pub Line : Type 0
+Line = Result (OrNone Row) Refusal
+
 -- what a line says, whose bytes these are
 abbrev pub lined : List ℕ → Line → Outcome (Option HexRow)
-lined bytes (Row start count) = accepted (some (hex_row start (part_of bytes (place_at 4 count))))
-lined bytes End = accepted none
-lined bytes (Refused k) = refused k
+lined bytes (Ok (Some row)) = accepted (some (hex_row row.start (part_of bytes (place_at 4 row.count))))
+lined bytes (Ok None) = accepted none
+lined bytes (Err k) = refused (number_of k)
 
 -- the data that it says stand in so many bytes, before the checksum
 abbrev pub Held : ℕ → Line → Type 0
-Held n (Row start count) = count + 5 ≤ n
-Held n End = Unit
-Held n (Refused k) = Unit
+Held n (Ok (Some row)) = row.count + 5 ≤ n
+Held n (Ok None) = Unit
+Held n (Err k) = Unit
 
 -- the same without its data
 abbrev pub extent_of : Option HexRow → Option (ℕ × ℕ)
@@ -42,9 +48,9 @@ extent_of none = none
 extent_of (some r) = some (r.start, length r.bytes)
 
 abbrev pub extent_told : Line → Outcome (Option (ℕ × ℕ))
-extent_told (Row start count) = accepted (some (start, count))
-extent_told End = accepted none
-extent_told (Refused k) = refused k
+extent_told (Ok (Some row)) = accepted (some (row.start, row.count))
+extent_told (Ok None) = accepted none
+extent_told (Err k) = refused (number_of k)
 
 -- ---- the rows up to the first line that is none
 abbrev pub with_row : Outcome (Option HexRow) → List HexRow → List HexRow
@@ -90,20 +96,21 @@ abbrev pub Marked : List ℕ → List HexRow → Type 0
 Marked marks rows = (length marks ≡ 8192) × ((i : ℕ) → i < 65536 → bit_at marks i ≡ named_bit rows i)
 
 -- ---- the last line, where it lacks its line end
-abbrev pub last_step : Line → Step
-last_step (Row start count) = Fault malformed
-last_step End = AtEnd
-last_step (Refused k) = Fault malformed
+abbrev pub last_step : Line → Result Step Refusal
+last_step (Ok (Some row)) = Err Malformed
+last_step (Ok None) = Ok AtEnd
+last_step (Err k) = Err Malformed
 
 -- ---- one row, and one line, behind rows that are marked
-abbrev pub FitOf : ℕ → ℕ → ℕ → List ℕ → List ℕ → Step → Type 0
-FitOf e start count before after OneRow = (start + count ≤ e) × MarksRow start count before after false
-FitOf e start count before after (Fault k) = ((e < start + count) × (k ≡ outside)) ⊎ ((start + count ≤ e) × MarksRow start count before after true × (k ≡ named_twice))
-FitOf e start count before after AtEnd = ⊥
+abbrev pub FitOf : ℕ → ℕ → ℕ → List ℕ → List ℕ → Result Step Refusal → Type 0
+FitOf e start count before after (Ok OneRow) = (start + count ≤ e) × MarksRow start count before after false
+FitOf e start count before after (Err k) =
+    ((e < start + count) × (number_of k ≡ outside)) ⊎ ((start + count ≤ e) × MarksRow start count before after true × (number_of k ≡ named_twice))
+FitOf e start count before after (Ok AtEnd) = ⊥
 
-abbrev pub StepOf : ℕ → List ℕ → List ℕ → List ℕ → Step → Type 0
-StepOf e text before after OneRow =
+abbrev pub StepOf : ℕ → List ℕ → List ℕ → List ℕ → Result Step Refusal → Type 0
+StepOf e text before after (Ok OneRow) =
     (length (behind_line text) < length text)
     × ((rows : List HexRow) → Marked before rows → (r : HexRow) × Marked after (rows ++ (r ∷ [])) × (rows_from e rows (lines_in text) ≡ rows_from e (rows ++ (r ∷ [])) (lines_in (behind_line text))))
-StepOf e text before after AtEnd = (rows : List HexRow) → Marked before rows → rows_from e rows (lines_in text) ≡ accepted rows
-StepOf e text before after (Fault k) = (rows : List HexRow) → Marked before rows → rows_from e rows (lines_in text) ≡ refused k
+StepOf e text before after (Ok AtEnd) = (rows : List HexRow) → Marked before rows → rows_from e rows (lines_in text) ≡ accepted rows
+StepOf e text before after (Err k) = (rows : List HexRow) → Marked before rows → rows_from e rows (lines_in text) ≡ refused (number_of k)

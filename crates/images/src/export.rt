@@ -1,6 +1,6 @@
 // Writing an EEPROM as Intel HEX: rows of 16 bytes, the last shorter, then the end record.
 ghost use Rattle.std.specs.Prelude.{◌≡◌, ◌+◌, ◌-◌, ◌*◌, ◌%◌, ◌<◌, ◌≤◌, min, [], ◌∷◌, ◌++◌, length};
-ghost use Rattle.octets.specs.Outcome.{written};
+ghost use Rattle.octets.specs.Outcome.{outcome};
 ghost use Rattle.octets.specs.Over.{over};
 ghost use Rattle.octets.specs.Number.{big_bytes};
 ghost use Rattle.text.specs.Digits.{pairs_of};
@@ -8,7 +8,7 @@ ghost use Rattle.intel_hex.specs.Format.{hex_row, complement, row_text};
 ghost use Rattle.intel_hex.specs.Writing.{export_row, export_rows};
 ghost use Rattle.images.specs.Export.{exported_into};
 
-use octets::{Place, Written, refusal};
+use octets::{Place, Refusal};
 use processor::LARGEST;
 
 // How many bytes of the EEPROM a row has; the last may have fewer.
@@ -19,39 +19,37 @@ const AROUND: usize = 12;
 
 // Writes the EEPROM's text over the start of out.
 #[tactic(auto, using(octets::proofs::Choosing::tests))]
-pub fn export(eeprom: &[u8], out: &mut [u8]) -> Written
-    ensures { (written result, out.new) ≡ exported_into eeprom.now out.old }
+pub fn export(eeprom: &[u8], out: &mut [u8]) -> Result<usize, Refusal>
+    ensures { (outcome result, out.new) ≡ exported_into eeprom.now out.old }
 {
     if LARGEST < eeprom.len() {
-        return Written::Refused(refusal::WRONG_SIZES);
+        return Err(Refusal::WrongSizes);
     }
-    let rows = (eeprom.len() + 15) / ROW;
+    let rows = eeprom.len().div_ceil(ROW);
     let end = 2 * eeprom.len() + AROUND * rows;
     if out.len() < end + 12 {
-        return Written::Refused(refusal::NO_ROOM);
+        return Err(Refusal::NoRoom);
     }
     put_rows(eeprom, rows, out);
-    octets::put(b":00000001FF\n", &mut out[end..]);
-    Written::Bytes(end + 12)
+    let _ = octets::put(b":00000001FF\n", &mut out[end..]);
+    Ok(end + 12)
 }
 
 // Each row but the last takes 44 bytes, so that they stand 44 bytes apart.
 fn put_rows(eeprom: &[u8], rows: usize, out: &mut [u8])
-    requires rows_in_bounds { (16 * rows ≤ length eeprom.now + 15) × (length eeprom.now ≤ 65536) }
-    requires rows_in_bounds_2 { 2 * length eeprom.now + 12 * rows ≤ length out.old }
+    requires are_rows { (16 * rows ≤ length eeprom.now + 15) × (length eeprom.now ≤ 65536) }
+    requires room { 2 * length eeprom.now + 12 * rows ≤ length out.old }
     ensures { out.new ≡ over (export_rows eeprom.now rows) out.old }
 {
-    let mut k = 0;
-    while k < rows {
+    for k in 0..rows {
         put_row(k, eeprom, &mut out[44 * k..]);
-        k += 1;
     }
 }
 
 // The k-th row of the EEPROM.
 fn put_row(k: usize, eeprom: &[u8], out: &mut [u8])
-    requires k_in_bounds { (16 * k < length eeprom.now) × (length eeprom.now ≤ 65536) }
-    requires k_in_bounds_2 { 12 + 2 * min 16 (length eeprom.now - 16 * k) ≤ length out.old }
+    requires is_row { (16 * k < length eeprom.now) × (length eeprom.now ≤ 65536) }
+    requires room { 12 + 2 * min 16 (length eeprom.now - 16 * k) ≤ length out.old }
     ensures { out.new ≡ over (row_text (export_row eeprom.now k) ++ (10 ∷ [])) out.old }
 {
     let start = ROW * k;
@@ -66,8 +64,8 @@ fn put_record(start: u16, bytes: &[u8], out: &mut [u8])
 {
     let head = head_of(bytes.len() as u8, start);
     let sum = complement_of(packet::checksum(&head), packet::checksum(bytes));
-    octets::put(b":", out);
-    text::put_pairs(&head, &mut out[1..]);
+    let _ = octets::put(b":", out);
+    let _ = text::put_pairs(&head, &mut out[1..]);
     put_summed(bytes, sum, &mut out[9..]);
 }
 
@@ -77,21 +75,22 @@ fn put_summed(bytes: &[u8], sum: u8, out: &mut [u8])
     ensures { out.new ≡ over ((pairs_of bytes.now ++ pairs_of (sum ∷ [])) ++ (10 ∷ [])) out.old }
 {
     let end = 2 * bytes.len();
-    text::put_pairs(bytes, out);
-    text::put_pairs(&[sum], &mut out[end..]);
-    octets::put(b"\n", &mut out[end + 2..]);
+    let _ = text::put_pairs(bytes, out);
+    let _ = text::put_pairs(&[sum], &mut out[end..]);
+    let _ = octets::put(b"\n", &mut out[end + 2..]);
 }
 
 // What stands before a record's data: their count, the address, type 00.
 fn head_of(count: u8, start: u16) -> [u8; 4]
     ensures { result ≡ count ∷ (big_bytes 2 start ++ (0 ∷ [])) }
 {
-    [count, (start / 256 % 256) as u8, (start % 256) as u8, 0]
+    let [high, low] = start.to_be_bytes();
+    [count, high, low, 0]
 }
 
 // What makes the sum of a record 0, whose head and rest have these sums.
 fn complement_of(head: u8, rest: u8) -> u8
     ensures { result ≡ complement ((head + rest) % 256) }
 {
-    std::num::wrapping_sub_u8(0, std::num::wrapping_add_u8(head, rest))
+    head.wrapping_add(rest).wrapping_neg()
 }

@@ -1,28 +1,24 @@
 // Reading a text of Intel HEX into an image. The whole text is judged, row by row; then its rows are
 // placed.
 ghost use Rattle.std.specs.Prelude.{◌≡◌};
-ghost use Rattle.octets.specs.Outcome.{done};
+ghost use Rattle.octets.specs.Outcome.{outcome};
 ghost use Rattle.intel_hex.specs.Reading.{lines_in};
 ghost use Rattle.images.specs.Import.{imported_into, placed};
 ghost use Rattle.images.specs.Inside.{rows_here};
 
 use crate::judge::judge;
 use crate::row::{line_end, line_of, place_line};
-use octets::Done;
+use octets::Refusal;
 use processor::create::erase;
 
 // Fills an image by a text, whole or not at all.
-pub fn import(hex: &[u8], image: &mut [u8]) -> Done
-    ensures { (done result, image.new) ≡ imported_into hex.now image.old }
+pub fn import(hex: &[u8], image: &mut [u8]) -> Result<(), Refusal>
+    ensures { (outcome result, image.new) ≡ imported_into hex.now image.old }
 {
-    match judge(hex, image.len()) {
-        Done::Done => {
-            erase(image);
-            place_rows(hex, image);
-            Done::Done
-        }
-        Done::Refused(k) => Done::Refused(k),
-    }
+    judge(hex, image.len())?;
+    erase(image);
+    place_rows(hex, image);
+    Ok(())
 }
 
 // Places the rows of a text up to its end record.
@@ -31,7 +27,6 @@ fn place_rows(hex: &[u8], image: &mut [u8])
 {
     let mut rest = hex;
     while place_line(line_of(rest), image) {
-        let n = line_end(rest);
-        rest = &rest[n..];
+        rest = &rest[line_end(rest)..];
     }
 }

@@ -1,73 +1,58 @@
 // Judging a text of Intel HEX, up to its first bad row. Which bytes the rows so far have named is marked,
 // a bit for each, so that going over the text once is enough.
 ghost use Rattle.std.specs.Prelude.{◌≡◌, ◌+◌, ◌<◌, ◌≤◌, length, replicate};
-ghost use Rattle.octets.specs.Refusals.{malformed};
+ghost use Rattle.octets.specs.declared.refusal.Refusal.TheVariants.{Malformed};
 ghost use Rattle.octets.specs.Choice.{if_lt};
-ghost use Rattle.octets.specs.Outcome.{done, on_accepted};
+ghost use Rattle.octets.specs.Outcome.{outcome, on_accepted};
 ghost use Rattle.intel_hex.specs.Reading.{rows_in};
 ghost use Rattle.images.specs.Import.{judged_for};
 ghost use Rattle.images.specs.Inside.{MarksOne, MarksRow, last_step, StepOf, FitOf};
-ghost use Rattle.images.specs.declared.judge.Step.TheVariants.{End, Refused};
+ghost use Rattle.images.specs.declared.judge.Step.TheVariants.{End};
 
 use crate::row::{Line, line_end, line_of, look_at};
-use octets::{Done, refusal};
+use octets::Refusal;
 use processor::LARGEST;
 
 // A bit for each byte of the largest image.
 const MARKS: usize = 8192;
 
 // Judges a text for an image of so many bytes.
-pub fn judge(hex: &[u8], size: usize) -> Done
-    ensures { done result ≡ on_accepted (λ rows. tt) (judged_for size hex.now) }
+pub fn judge(hex: &[u8], size: usize) -> Result<(), Refusal>
+    ensures { outcome result ≡ on_accepted (λ rows. tt) (judged_for size hex.now) }
 {
     if LARGEST < size {
-        return Done::Refused(refusal::WRONG_SIZES);
+        return Err(Refusal::WrongSizes);
     }
     judge_sized(hex, size)
 }
 
-fn judge_sized(hex: &[u8], size: usize) -> Done
+fn judge_sized(hex: &[u8], size: usize) -> Result<(), Refusal>
     requires { size ≤ 65536 }
-    ensures { done result ≡ on_accepted (λ rows. tt) (rows_in size hex.now) }
+    ensures { outcome result ≡ on_accepted (λ rows. tt) (rows_in size hex.now) }
 {
     let mut marks = [0u8; MARKS];
-    judge_marking(hex, size, &mut marks)
+    judge_rows(hex, size, &mut marks)
 }
 
-// The marks are lent whole as an array: as a slice where they are made, they would be more than the
-// checker holds.
-fn judge_marking(hex: &[u8], size: usize, marks: &mut [u8; MARKS]) -> Done
+fn judge_rows(hex: &[u8], size: usize, marks: &mut [u8]) -> Result<(), Refusal>
     requires { (size ≤ 65536) × (marks.old ≡ replicate 8192 0) }
-    ensures { done result ≡ on_accepted (λ rows. tt) (rows_in size hex.now) }
-{
-    judge_rows(hex, size, marks)
-}
-
-fn judge_rows(hex: &[u8], size: usize, marks: &mut [u8]) -> Done
-    requires { (size ≤ 65536) × (marks.old ≡ replicate 8192 0) }
-    ensures { done result ≡ on_accepted (λ rows. tt) (rows_in size hex.now) }
+    ensures { outcome result ≡ on_accepted (λ rows. tt) (rows_in size hex.now) }
 {
     let mut rest = hex;
-    loop {
-        match judge_line(rest, size, marks) {
-            Step::Row => {}
-            Step::End => return Done::Done,
-            Step::Refused(k) => return Done::Refused(k),
-        }
-        let n = line_end(rest);
-        rest = &rest[n..];
+    while let Step::Row = judge_line(rest, size, marks)? {
+        rest = &rest[line_end(rest)..];
     }
+    Ok(())
 }
 
-// What a line comes to behind the rows that are marked: one more row, the end of the text, or a fault.
-#[derive(Clone, Copy)]
+// What a line comes to behind the rows that are marked: one more row, or the end of the text.
+#[derive(Clone, Copy, Debug, PartialEq, Eq)]
 enum Step {
     Row,
     End,
-    Refused(u8),
 }
 
-fn judge_line(rest: &[u8], size: usize, marks: &mut [u8]) -> Step
+fn judge_line(rest: &[u8], size: usize, marks: &mut [u8]) -> Result<Step, Refusal>
     requires { (size ≤ 65536) × (length marks.old ≡ 8192) }
     ensures { StepOf size rest.now marks.old marks.new result }
 {
@@ -76,46 +61,45 @@ fn judge_line(rest: &[u8], size: usize, marks: &mut [u8]) -> Step
     if n == rest.len() {
         return last_line(line);
     }
-    match line {
-        Line::Row { start, count } => judge_row(start as usize, count as usize, size, marks),
-        Line::End => end_line(n + 1, rest.len()),
-        Line::Refused(k) => Step::Refused(k),
+    match line? {
+        Some(row) => judge_row(row.start as usize, row.count as usize, size, marks),
+        None => end_line(n + 1, rest.len()),
     }
 }
 
 // A line without a line end, which only the end record may lack.
-fn last_line(line: Line) -> Step
+fn last_line(line: Line) -> Result<Step, Refusal>
     ensures { result ≡ last_step line }
 {
     match line {
-        Line::End => Step::End,
-        Line::Row { start: _, count: _ } => Step::Refused(refusal::MALFORMED),
-        Line::Refused(_) => Step::Refused(refusal::MALFORMED),
+        Ok(None) => Ok(Step::End),
+        Ok(Some(_)) | Err(_) => Err(Refusal::Malformed),
     }
 }
 
 // The end record, behind which the text must end.
 #[tactic(auto, using(octets::proofs::Choosing::tests))]
-fn end_line(end: usize, len: usize) -> Step
-    ensures { result ≡ if_lt end len (Refused malformed) End }
+fn end_line(end: usize, len: usize) -> Result<Step, Refusal>
+    ensures { result ≡ if_lt end len (Err Malformed) (Ok End) }
 {
     if end < len {
-        return Step::Refused(refusal::MALFORMED);
+        Err(Refusal::Malformed)
+    } else {
+        Ok(Step::End)
     }
-    Step::End
 }
 
-fn judge_row(start: usize, count: usize, size: usize, marks: &mut [u8]) -> Step
+fn judge_row(start: usize, count: usize, size: usize, marks: &mut [u8]) -> Result<Step, Refusal>
     requires { (size ≤ 65536) × (length marks.old ≡ 8192) × (start < 65536) × (count < 256) }
     ensures { FitOf size start count marks.old marks.new result }
 {
     if size < start + count {
-        return Step::Refused(refusal::OUTSIDE);
+        Err(Refusal::Outside)
+    } else if mark_row(start, count, marks) {
+        Err(Refusal::NamedTwice)
+    } else {
+        Ok(Step::Row)
     }
-    if mark_row(start, count, marks) {
-        return Step::Refused(refusal::NAMED_TWICE);
-    }
-    Step::Row
 }
 
 // Marks the bytes of a row, unless one of them is marked: whether one is.
@@ -123,13 +107,10 @@ fn mark_row(start: usize, count: usize, marks: &mut [u8]) -> bool
     requires { (start + count ≤ 65536) × (length marks.old ≡ 8192) }
     ensures { MarksRow start count marks.old marks.new result }
 {
-    let end = start + count;
-    let mut place = start;
-    while place < end {
+    for place in start..start + count {
         if mark(place, marks) {
             return true;
         }
-        place += 1;
     }
     false
 }

@@ -1,19 +1,20 @@
 // One line of a text: a data record's row, or the end record.
 ghost use Rattle.std.specs.Prelude.{◌≡◌, ◌≤◌, length, drop};
-ghost use Rattle.octets.specs.Outcome.{on_accepted};
+ghost use Rattle.octets.specs.Outcome.{outcome, on_accepted};
 ghost use Rattle.intel_hex.specs.Reading.{end_in, record_in, line_in, lines_in, without_cr};
 ghost use Rattle.images.specs.Inside.{lined, Held, extent_told, extent_of, first_line, behind_line, placed_line};
 
-use octets::{number, refusal};
-use text::Pairs;
+use octets::{Refusal, number};
 
-// What a line says. The data of a row stand in the record's bytes behind its type.
-#[derive(Clone, Copy)]
-pub enum Line {
-    Row { start: u16, count: u8 },
-    End,
-    Refused(u8),
+// A data record's row. Its data stand in the record's bytes behind its type.
+#[derive(Clone, Copy, Debug, PartialEq, Eq)]
+pub struct Row {
+    pub start: u16,
+    pub count: u8,
 }
+
+// What a line says: a row, or none where it is the end record.
+pub type Line = Result<Option<Row>, Refusal>;
 
 // The most bytes of a record: 255 of data, and five around them.
 const RECORD: usize = 260;
@@ -27,22 +28,16 @@ pub fn line_of(rest: &[u8]) -> &[u8]
 {
     let n = text::until(rest, b'\n');
     if n == rest.len() {
-        return rest;
+        rest
+    } else {
+        without_cr(&rest[..n])
     }
-    without_cr(&rest[0..n])
 }
 
 fn without_cr(line: &[u8]) -> &[u8]
     ensures { result.now ≡ without_cr line.now }
 {
-    if line.len() == 0 {
-        return line;
-    }
-    let last = line.len() - 1;
-    if line[last] == b'\r' {
-        return &line[0..last];
-    }
-    line
+    line.strip_suffix(b"\r").unwrap_or(line)
 }
 
 // Where the first line of a text ends, with its line end.
@@ -50,10 +45,7 @@ pub fn line_end(rest: &[u8]) -> usize
     ensures { (result ≤ length rest.now) × (drop result rest.now ≡ behind_line rest.now) }
 {
     let n = text::until(rest, b'\n');
-    if n == rest.len() {
-        return n;
-    }
-    n + 1
+    if n == rest.len() { n } else { n + 1 }
 }
 
 // Reads a line; the bytes that it spells go to the start of bytes.
@@ -62,12 +54,12 @@ fn read_line(line: &[u8], bytes: &mut [u8]) -> Line
     ensures { (lined bytes.new result ≡ line_in line.now) × Held 260 result }
 {
     if number::byte(line, 0) != b':' {
-        return Line::Refused(refusal::MALFORMED);
+        return Err(Refusal::Malformed);
     }
-    match text::read_pairs(&line[1..], bytes) {
-        Pairs::Bytes(n) => record_of(&bytes[0..n]),
-        Pairs::Bad => Line::Refused(refusal::MALFORMED),
-    }
+    let Some(n) = text::read_pairs(&line[1..], bytes) else {
+        return Err(Refusal::Malformed);
+    };
+    record_of(&bytes[..n])
 }
 
 // The same, where its data are not asked for.
@@ -83,36 +75,34 @@ fn record_of(bytes: &[u8]) -> Line
     ensures { (lined bytes.now result ≡ record_in bytes.now) × Held (length bytes.now) result }
 {
     if bytes.len() < 5 {
-        return Line::Refused(refusal::MALFORMED);
+        return Err(Refusal::Malformed);
     }
     let count = bytes[0];
     if count as usize + 5 != bytes.len() {
-        return Line::Refused(refusal::MALFORMED);
+        return Err(Refusal::Malformed);
     }
     if bytes[3] == 1 {
         return end_of(bytes);
     }
     if bytes[3] != 0 {
-        return Line::Refused(refusal::MALFORMED);
+        return Err(Refusal::Malformed);
     }
     if packet::checksum(bytes) != 0 {
-        return Line::Refused(refusal::RECORD_CHECKSUM);
+        return Err(Refusal::RecordChecksum);
     }
     let start = number::big16(bytes, 1);
-    Line::Row { start, count }
+    Ok(Some(Row { start, count }))
 }
 
 #[tactic(auto, using(octets::proofs::Choosing::tests))]
 fn end_of(bytes: &[u8]) -> Line
     ensures { (lined bytes.now result ≡ end_in bytes.now) × Held (length bytes.now) result }
 {
-    if number::big24(bytes, 0) != 0 {
-        return Line::Refused(refusal::MALFORMED);
+    if number::big24(bytes, 0) != 0 || number::byte(bytes, DATA) != 0xff {
+        Err(Refusal::Malformed)
+    } else {
+        Ok(None)
     }
-    if number::byte(bytes, DATA) != 0xff {
-        return Line::Refused(refusal::MALFORMED);
-    }
-    Line::End
 }
 
 // Places a row, and answers whether the line is one.
@@ -120,13 +110,10 @@ pub fn place_line(line: &[u8], image: &mut [u8]) -> bool
     ensures { (result, image.new) ≡ placed_line (line_in line.now) image.old }
 {
     let mut bytes = [0u8; RECORD];
-    match read_line(line, &mut bytes) {
-        Line::Row { start, count } => {
-            let end = DATA + count as usize;
-            octets::put_at(&bytes[DATA..end], start as usize, image);
-            true
-        }
-        Line::End => false,
-        Line::Refused(_) => false,
-    }
+    let Ok(Some(row)) = read_line(line, &mut bytes) else {
+        return false;
+    };
+    let end = DATA + row.count as usize;
+    let _ = octets::put_at(&bytes[DATA..end], row.start as usize, image);
+    true
 }

@@ -1,10 +1,10 @@
 -- Parts of a text on a page, one behind the other.
-use Prim.Native.Nat.{ℕ, ◌+◌, ◌-◌, ◌≤◌, ◌<◌}
+use Prim.Native.Nat.{ℕ, ◌+◌, ◌-◌, ◌≤◌}
 use mathlib.Core.Path.{◌≡◌, refl, sym, ap, ◌∙◌}
 use mathlib.Core.List.{List, [], ◌++◌, append_assoc}
 use native.Mathlib.Omega.{arith}
 use lib.ListN.{length, take, drop, length-append, length-take, length-drop, take-append-drop}
-use lib.Seq.{take_at, drop_at, drop-drop, length-take-le}
+use lib.Seq.{take_at, drop_at, drop-drop}
 use Rattle.octets.specs.Outcome.{Outcome, accepted, refused}
 use Rattle.octets.specs.Over.{over, into, over_at, into_at}
 use Rattle.octets.proofs.Choosing.{above, if-of, was-above, refused-accepted}
@@ -51,21 +51,19 @@ module _ (w l : List ℕ) (at : ℕ) {o : List ℕ} where
       let never : at + length w ≤ length l → ⊥ = λ h. refused-accepted (ap (λ (p : Outcome ℕ × List ℕ). p.0) (e ∙ sym (above _ _ _ _ _ h refl))) in
       record { told = λ h. absurd (never h); text = λ h. absurd (never h) }
 
-  -- outside of the page
-  pub far : length l < at → Adds w at l at o
-  far g = record { told = λ h. absurd (omega arith); text = λ h. absurd (omega arith) }
-
 -- the same, where the callee was lent the rest of the page, which comes back
 length_rest : (l : List ℕ) (at : ℕ) → length (take (length l - at) (drop at l)) ≡ length l - at
 length_rest l at = simp (length-take, length-drop) (omega arith)
 
-module _ (w l : List ℕ) (at : ℕ) (h : at ≤ length l) {y : List ℕ} where
-  pub lent : {n : ℕ} → (accepted n, y) ≡ into w (take (length l - at) (drop at l)) → (at + n ≤ length l) × Adds w at l (at + n) (take at l ++ (y ++ drop (length l - at) (drop at l)))
+module _ (w l : List ℕ) (at m : ℕ) (size : m ≡ length l) (h : at ≤ m) {y : List ℕ} where
+  pub lent : {n : ℕ} → (accepted n, y) ≡ into w (take (m - at) (drop at l)) → (at + n ≤ m) × Adds w at l (at + n) (take at l ++ (y ++ drop (m - at) (drop at l)))
   lent {n} e =
-      let told = was-above _ _ _ _ (sym (ap (λ (p : Outcome ℕ × List ℕ). p.0) e ∙ if-of (λ (p : Outcome ℕ × List ℕ). p.0) _ _ _ _)) in
-      wrote w l at (put-from l at w (omega (arith, told.0, length_rest l at)) e)
+      let whole = rw size at e in
+      let told = was-above _ _ _ _ (sym (ap (λ (p : Outcome ℕ × List ℕ). p.0) whole ∙ if-of (λ (p : Outcome ℕ × List ℕ). p.0) _ _ _ _)) in
+      rw size (wrote w l at (put-from l at w (omega (arith, told.0, length_rest l at)) whole))
 
-  pub lent-not : {k : ℕ} → (refused k, y) ≡ into w (take (length l - at) (drop at l)) → Adds w at l at (take at l ++ (y ++ drop (length l - at) (drop at l)))
+  pub lent-not : {k : ℕ} → (refused k, y) ≡ into w (take (m - at) (drop at l)) → Adds w at l at (take at l ++ (y ++ drop (m - at) (drop at l)))
   lent-not {k} e =
-      let never : at + length w ≤ length l → ⊥ = λ g. refused-accepted (ap (λ (p : Outcome ℕ × List ℕ). p.0) (e ∙ sym (above _ _ _ _ _ (omega (arith, length_rest l at)) refl))) in
+      let whole = rw size at e in
+      let never : at + length w ≤ length l → ⊥ = λ g. refused-accepted (ap (λ (p : Outcome ℕ × List ℕ). p.0) (whole ∙ sym (above _ _ _ _ _ (omega (arith, length_rest l at)) refl))) in
       record { told = λ g. absurd (never g); text = λ g. absurd (never g) }

@@ -4,7 +4,7 @@
 #![tactic(auto)]
 
 ghost use Rattle.std.specs.Prelude.{◌≡◌, ◌∷◌, ◌++◌, ◌≤◌, length, drop};
-ghost use Rattle.octets.specs.Outcome.{written};
+ghost use Rattle.octets.specs.Outcome.{outcome};
 ghost use Rattle.octets.specs.Over.{into};
 ghost use Rattle.text.specs.Digits.{decimal, hex_digits};
 ghost use Rattle.processor.specs.Change.{writes_in};
@@ -13,11 +13,11 @@ ghost use Rattle.streams.specs.Inside.{frame_writes};
 ghost use Rattle.listed.specs.Listing.{space, line_end, pair_line, setting_line, end_line, write_lines, listed_into};
 ghost use Rattle.listed.specs.Inside.{Adds, lines_of, frames_text};
 
-use octets::{Written, refusal};
+use octets::Refusal;
 use processor::change::Change;
 use streams::judge::judge;
-use streams::means::{Meant, meaning_of};
-use streams::shape::{Judged, Shape};
+use streams::means::meaning_of;
+use streams::shape::Shape;
 use streams::stream;
 
 // The most bytes of a save that is listed.
@@ -27,158 +27,130 @@ const LONGEST_LISTED: usize = 32_768;
 const PAGE: usize = 65_536;
 
 // Writes the text of a save.
-pub fn list(save: &[u8], out: &mut [u8]) -> Written
-    ensures { (written result, out.new) ≡ listed_into save.now out.old }
+pub fn list(save: &[u8], out: &mut [u8]) -> Result<usize, Refusal>
+    ensures { (outcome result, out.new) ≡ listed_into save.now out.old }
 {
     if LONGEST_LISTED < save.len() {
-        return Written::Refused(refusal::TOO_LONG);
+        return Err(Refusal::TooLong);
     }
-    match judge(save) {
-        Judged::Sound(shape) => list_sound(shape, save, out),
-        Judged::Refused(k) => Written::Refused(k),
-    }
+    list_sound(judge(save)?, save, out)
 }
 
-fn list_sound(shape: Shape, save: &[u8], out: &mut [u8]) -> Written
+fn list_sound(shape: Shape, save: &[u8], out: &mut [u8]) -> Result<usize, Refusal>
     requires { length (frames_text shape (drop 11 save.now)) ≤ 65536 }
-    ensures { (written result, out.new) ≡ into (frames_text shape (drop 11 save.now)) out.old }
+    ensures { (outcome result, out.new) ≡ into (frames_text shape (drop 11 save.now)) out.old }
 {
-    let mut page = [0u8; PAGE];
-    list_by(shape, save, out, &mut page)
+    let mut page = Page {
+        bytes: [0; PAGE],
+        end: 0,
+    };
+    page.add_text(shape, save);
+    octets::put(&page.bytes[..page.end], out)
 }
 
-// The page is lent whole as an array: as a slice where it is made, it would be more than the checker
-// holds.
-fn list_by(shape: Shape, save: &[u8], out: &mut [u8], page: &mut [u8; PAGE]) -> Written
-    requires { length (frames_text shape (drop 11 save.now)) ≤ 65536 }
-    ensures { (written result, out.new) ≡ into (frames_text shape (drop 11 save.now)) out.old }
-{
-    list_on(shape, save, out, page)
-}
-
-fn list_on(shape: Shape, save: &[u8], out: &mut [u8], page: &mut [u8]) -> Written
-    requires { length (frames_text shape (drop 11 save.now)) ≤ length page.old }
-    ensures { (written result, out.new) ≡ into (frames_text shape (drop 11 save.now)) out.old }
-{
-    let end = add_text(shape, save, page);
-    octets::put(&page[0..end], out)
-}
-
-fn add_text(shape: Shape, save: &[u8], page: &mut [u8]) -> usize
-    ensures { Adds (frames_text shape (drop 11 save.now)) 0 page.old result page.new }
-{
-    let e = shape.eeprom;
-    let s = shape.settings;
-    let fields = stream::fields_of(save);
-    let first = add_pair(b"shape ", e, s, 0, page);
-    let lines = add_lines(fields, e, s, first, page);
-    add_end(lines.frames, lines.end, page)
-}
-
-// How many frames there are, and where their lines end.
-#[derive(Clone, Copy)]
-struct Added {
-    frames: usize,
+// A page, on which a text stands up to its end. What has no room is left out.
+#[derive(Drop)]
+struct Page {
+    bytes: [u8; PAGE],
     end: usize,
+    ghost within: { end ≤ 65536 },
 }
 
-fn add_lines(fields: &[u8], e: usize, s: usize, at: usize, page: &mut [u8]) -> Added
-    ensures { (result.frames ≡ length (stream_of fields.now).frames) × Adds (lines_of e s fields.now) at page.old result.end page.new }
-{
-    let mut rest = fields;
-    let mut end = at;
-    let mut frames = 0;
-    while stream::tag_of(rest) == stream::FRAME {
-        end = add_frame(stream::content_of(rest), e, s, end, page);
-        frames += 1;
-        let n = stream::field_end(rest);
-        rest = &rest[n..];
+impl Page {
+    fn add_text(&mut self, shape: Shape, save: &[u8])
+        ensures { Adds (frames_text shape (drop 11 save.now)) self.old.end self.old.bytes self.new.end self.new.bytes }
+    {
+        self.add_pair(b"shape ", shape.eeprom, shape.settings);
+        let frames = self.add_lines(shape, stream::fields_of(save));
+        self.add_end(frames);
     }
-    Added { frames, end }
-}
 
-// The line of what a frame writes.
-fn add_frame(frame: &[u8], e: usize, s: usize, at: usize, page: &mut [u8]) -> usize
-    ensures { Adds (write_lines (frame_writes e s frame.now)) at page.old result page.new }
-{
-    let packet = stream::packet_in(frame);
-    match meaning_of(packet, e, s) {
-        Meant::Is(change) => add_change(change, packet, at, page),
-        Meant::Refused(_) => at,
-    }
-}
-
-fn add_change(change: Change, packet: &[u8], at: usize, page: &mut [u8]) -> usize
-    ensures { Adds (write_lines (writes_in packet.now change)) at page.old result page.new }
-{
-    match change {
-        Change::Nothing => at,
-        Change::EepromByte { addr, value: _ } => add_pair(b"memory ", addr as usize, 1, at, page),
-        Change::EepromBytes { addr, data } => {
-            let bytes = octets::part(packet, data);
-            add_pair(b"memory ", addr as usize, bytes.len(), at, page)
+    // Adds the lines of the frames, and answers how many there are. A `while`, since how long a field is stands in its own
+    // bytes: no iterator of the library goes over them.
+    fn add_lines(&mut self, shape: Shape, fields: &[u8]) -> usize
+        ensures { (result ≡ length (stream_of fields.now).frames) × Adds (lines_of shape.eeprom shape.settings fields.now) self.old.end self.old.bytes self.new.end self.new.bytes }
+    {
+        let mut rest = fields;
+        let mut frames = 0;
+        while stream::tag_of(rest) == stream::FRAME {
+            self.add_frame(shape, stream::content_of(rest));
+            frames += 1;
+            let n = stream::field_end(rest);
+            rest = &rest[n..];
         }
-        Change::SettingsWord { addr, value } => add_setting(addr as usize, value, at, page),
+        frames
     }
-}
 
-fn add_pair(name: &[u8], a: usize, b: usize, at: usize, page: &mut [u8]) -> usize
-    ensures { Adds (pair_line name.now a b) at page.old result page.new }
-{
-    let behind_a = add_number(name, a, at, page);
-    let behind_b = add_number(b" ", b, behind_a, page);
-    add(b"\n", behind_b, page)
-}
-
-fn add_setting(addr: usize, value: u32, at: usize, page: &mut [u8]) -> usize
-    ensures { Adds (setting_line addr value) at page.old result page.new }
-{
-    let behind_addr = add_number(b"setting ", addr, at, page);
-    add_word(value, behind_addr, page)
-}
-
-// What ends the line of a setting.
-fn add_word(value: u32, at: usize, page: &mut [u8]) -> usize
-    ensures { Adds (space ∷ (hex_digits 8 value ++ line_end)) at page.old result page.new }
-{
-    let behind_space = add(b" ", at, page);
-    let behind_value = add(&text::hex8(value), behind_space, page);
-    add(b"\n", behind_value, page)
-}
-
-fn add_end(frames: usize, at: usize, page: &mut [u8]) -> usize
-    ensures { Adds (end_line frames) at page.old result page.new }
-{
-    let behind_frames = add_number(b"end ", frames, at, page);
-    add(b"\n", behind_frames, page)
-}
-
-// A number behind a name.
-fn add_number(name: &[u8], n: usize, at: usize, page: &mut [u8]) -> usize
-    ensures { Adds (name.now ++ decimal n) at page.old result page.new }
-{
-    let behind_name = add(name, at, page);
-    add_decimal(n, behind_name, page)
-}
-
-fn add_decimal(n: usize, at: usize, page: &mut [u8]) -> usize
-    ensures { Adds (decimal n) at page.old result page.new }
-{
-    if page.len() < at {
-        return at;
+    // The line of what a frame writes.
+    fn add_frame(&mut self, shape: Shape, frame: &[u8])
+        ensures { Adds (write_lines (frame_writes shape.eeprom shape.settings frame.now)) self.old.end self.old.bytes self.new.end self.new.bytes }
+    {
+        let packet = stream::packet_in(frame);
+        if let Ok(change) = meaning_of(packet, shape.eeprom, shape.settings) {
+            self.add_change(change, packet);
+        }
     }
-    match text::put_decimal(n as u64, &mut page[at..]) {
-        Written::Bytes(len) => at + len,
-        Written::Refused(_) => at,
-    }
-}
 
-// Puts bytes at a place of the page and tells where they end.
-fn add(bytes: &[u8], at: usize, page: &mut [u8]) -> usize
-    ensures { Adds bytes.now at page.old result page.new }
-{
-    match octets::put_at(bytes, at, page) {
-        Written::Bytes(len) => at + len,
-        Written::Refused(_) => at,
+    fn add_change(&mut self, change: Change, packet: &[u8])
+        ensures { Adds (write_lines (writes_in packet.now change)) self.old.end self.old.bytes self.new.end self.new.bytes }
+    {
+        match change {
+            Change::Nothing => {}
+            Change::EepromByte { addr, value: _ } => self.add_pair(b"memory ", addr as usize, 1),
+            Change::EepromBytes { addr, data } => {
+                let bytes = octets::part(packet, data);
+                self.add_pair(b"memory ", addr as usize, bytes.len());
+            }
+            Change::SettingsWord { addr, value } => self.add_setting(addr as usize, value),
+        }
+    }
+
+    fn add_pair(&mut self, name: &[u8], a: usize, b: usize)
+        ensures { Adds (pair_line name.now a b) self.old.end self.old.bytes self.new.end self.new.bytes }
+    {
+        self.add_number(name, a);
+        self.add_number(b" ", b);
+        self.add(b"\n");
+    }
+
+    fn add_setting(&mut self, addr: usize, value: u32)
+        ensures { Adds (setting_line addr value) self.old.end self.old.bytes self.new.end self.new.bytes }
+    {
+        self.add_number(b"setting ", addr);
+        self.add(b" ");
+        self.add(&text::hex8(value));
+        self.add(b"\n");
+    }
+
+    fn add_end(&mut self, frames: usize)
+        ensures { Adds (end_line frames) self.old.end self.old.bytes self.new.end self.new.bytes }
+    {
+        self.add_number(b"end ", frames);
+        self.add(b"\n");
+    }
+
+    // A number behind a name.
+    fn add_number(&mut self, name: &[u8], n: usize)
+        ensures { Adds (name.now ++ decimal n) self.old.end self.old.bytes self.new.end self.new.bytes }
+    {
+        self.add(name);
+        self.add_decimal(n);
+    }
+
+    fn add_decimal(&mut self, n: usize)
+        ensures { Adds (decimal n) self.old.end self.old.bytes self.new.end self.new.bytes }
+    {
+        if let Ok(len) = text::put_decimal(n as u64, &mut self.bytes[self.end..]) {
+            self.end += len;
+        }
+    }
+
+    // Bytes, whole or not at all.
+    fn add(&mut self, bytes: &[u8])
+        ensures { Adds bytes.now self.old.end self.old.bytes self.new.end self.new.bytes }
+    {
+        if let Ok(len) = octets::put_at(bytes, self.end, &mut self.bytes) {
+            self.end += len;
+        }
     }
 }

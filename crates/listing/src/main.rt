@@ -2,7 +2,6 @@
 // only reads and writes: the text is the library's.
 #![tactic(auto)]
 
-use octets::Written;
 use programs::prints::*;
 use programs::reads::read_full;
 use std::io;
@@ -13,16 +12,7 @@ use std::io::Read;
 fn main(rt: HostRuntime) -> io::Result<()> {
     let mut input = [0u8; 32769];
     let mut output = [0u8; 65536];
-    run(&rt, &mut rt.stdin(), &mut input, &mut output)
-}
-
-fn run(
-    rt: &impl Print,
-    stdin: &mut impl Read,
-    input: &mut [u8; 32769],
-    output: &mut [u8; 65536],
-) -> io::Result<()> {
-    read_and_print(rt, stdin, input, output)
+    read_and_print(&rt, &mut rt.stdin(), &mut input, &mut output)
 }
 
 fn read_and_print(
@@ -32,8 +22,8 @@ fn read_and_print(
     output: &mut [u8],
 ) -> io::Result<()> {
     let n = read_full(stdin, input)?;
-    match listed::list(&input[0..n], output) {
-        Written::Bytes(len) => print_front(rt, output, len),
-        Written::Refused(number) => print_refusal(rt, number),
+    match listed::list(&input[..n], output) {
+        Ok(len) => print_front(rt, output, len),
+        Err(number) => print_refusal(rt, number),
     }
 }

@@ -1,14 +1,19 @@
 -- Each public function's contract fixes its answer and what it leaves.
 use Prim.Native.Nat.{ℕ}
-use mathlib.Core.Path.{◌≡◌}
+use Rattle.std.specs.Prelude.{Result, Ok, Err}
+use mathlib.Core.Path.{◌≡◌, refl, sym, ap, ◌∙◌}
 use mathlib.Core.Bool.{Bool}
-use mathlib.Core.List.{List}
-use Rattle.octets.specs.Outcome.{written, done}
+use denote.RattleType.{RattleType}
+use denote.Param.Laws.{Laws}
+use mir.Syntax.{Dict}
+use Rattle.std.proofs.Common.{Fits, w64}
+use mathlib.Core.List.{List, [], ◌∷◌}
+use lib.ListN.{get_or}
+use Rattle.octets.specs.Outcome.{outcome}
+use Rattle.octets.specs.Refusals.{number_of}
+use Rattle.octets.specs.declared.refusal.Refusal.{Refusal}
+use Rattle.octets.specs.declared.refusal.Refusal.TheVariants.{Empty, Short, Ends, FewValues, TooLong, NoRoom, Outside, AddressLength, WrongChecksum, Trailing, Apart, OtherKind, WrongField, WrongSizes, PastEnd, Malformed, RecordChecksum, NamedTwice}
 use Rattle.octets.specs.declared.Place.{Place}
-use Rattle.octets.specs.declared.Written.{Written}
-use Rattle.octets.specs.declared.Written.TheVariants.{Bytes, Refused}
-use Rattle.octets.specs.declared.Done.{Done}
-use Rattle.octets.specs.declared.Done.TheVariants.{Done as IsDone, Refused as NotDone}
 use Rattle.octets.proofs.Agree.{Fixes, agree, both}
 use Rattle.octets.proofs.put.Reads as put
 use Rattle.octets.proofs.put_word.Reads as put_word
@@ -23,29 +28,55 @@ use Rattle.octets.proofs.number.big24.Reads as big24
 use Rattle.octets.proofs.number.big32.Reads as big32
 use Rattle.octets.proofs.number.little16.Reads as little16
 use Rattle.octets.proofs.number.little32.Reads as little32
-use Rattle.octets.proofs.number.big_bytes16.Reads as big-bytes16
-use Rattle.octets.proofs.number.big_bytes24.Reads as big-bytes24
-use Rattle.octets.proofs.number.big_bytes32.Reads as big-bytes32
-use Rattle.octets.proofs.number.little_bytes32.Reads as little-bytes32
+use Rattle.octets.proofs.number.big_bytes.Reads as big-bytes
+use Rattle.octets.proofs.number.little_bytes.Reads as little-bytes
+use Rattle.octets.proofs.needing.Reads as needing
+use Rattle.octets.proofs.refusal.U8FromRefusal.from.Reads as number-from
+
+-- a refusal is known by its number
+by_number : List Refusal
+by_number =
+    Empty ∷ Empty ∷ Short ∷ Ends ∷ FewValues ∷ TooLong ∷ NoRoom ∷ Outside ∷ AddressLength ∷ WrongChecksum ∷ Trailing ∷ Apart ∷ OtherKind ∷ WrongField ∷ WrongSizes ∷ PastEnd ∷ Malformed ∷ RecordChecksum ∷ NamedTwice ∷ []
+
+of_number : ℕ → Refusal
+of_number n = get_or by_number n Empty
+
+back : (r : Refusal) → of_number (number_of r) ≡ r
+unfolding of_number by_number
+back Empty = refl
+back Short = refl
+back Ends = refl
+back FewValues = refl
+back TooLong = refl
+back NoRoom = refl
+back Outside = refl
+back AddressLength = refl
+back WrongChecksum = refl
+back Trailing = refl
+back Apart = refl
+back OtherKind = refl
+back WrongField = refl
+back WrongSizes = refl
+back PastEnd = refl
+back Malformed = refl
+back RecordChecksum = refl
+back NamedTwice = refl
+
+pub number_once : (a b : Refusal) → number_of a ≡ number_of b → a ≡ b
+number_once a b e = sym (back a) ∙ ap of_number e ∙ back b
 
 -- an answer is known by its reading
-pub written_once : (a b : Written) → written a ≡ written b → a ≡ b
-written_once (Bytes m) (Bytes n) e = cc
-written_once (Bytes m) (Refused k) e = cc
-written_once (Refused k) (Bytes m) e = cc
-written_once (Refused j) (Refused k) e = cc
+pub outcome_once : {A : Type 0} (a b : Result A Refusal) → outcome a ≡ outcome b → a ≡ b
+outcome_once (Ok m) (Ok n) e = cc
+outcome_once (Ok m) (Err k) e = cc
+outcome_once (Err k) (Ok m) e = cc
+outcome_once (Err j) (Err k) e = ap Err (number_once j k cc)
 
-pub done-once : (a b : Done) → done a ≡ done b → a ≡ b
-done-once IsDone IsDone e = cc
-done-once IsDone (NotDone k) e = cc
-done-once (NotDone k) IsDone e = cc
-done-once (NotDone j) (NotDone k) e = cc
+pub put-fixed : Fixes (Result ℕ Refusal × List ℕ) put.Post (λ κs answer left. (answer, left.1.0.now))
+put-fixed κs args a b x y p q = both outcome outcome_once (agree p q)
 
-pub put-fixed : Fixes (Written × List ℕ) put.Post (λ κs answer left. (answer, left.1.0.now))
-put-fixed κs args a b x y p q = both written written_once (agree p q)
-
-pub put-at-fixed : Fixes (Written × List ℕ) put-at.Post (λ κs answer left. (answer, left.1.1.0.now))
-put-at-fixed κs args a b x y p q = both written written_once (agree p q)
+pub put-at-fixed : Fixes (Result ℕ Refusal × List ℕ) put-at.Post (λ κs answer left. (answer, left.1.1.0.now))
+put-at-fixed κs args a b x y p q = both outcome outcome_once (agree p q)
 
 pub is-outside-fixed : Fixes Bool is-outside.Post (λ κs answer left. answer)
 is-outside-fixed κs args a b x y p q = agree p q
@@ -80,14 +111,14 @@ little16-fixed κs args a b x y p q = agree p q
 pub little32-fixed : Fixes ℕ little32.Post (λ κs answer left. answer)
 little32-fixed κs args a b x y p q = agree p q
 
-pub big-bytes16-fixed : Fixes (List ℕ) big-bytes16.Post (λ κs answer left. answer)
-big-bytes16-fixed κs args a b x y p q = agree p q
+pub big-bytes-fixed : (width : ℕ) (fits : Fits w64 width) → Fixes (List ℕ) (big-bytes.Post width fits) (λ κs answer left. answer)
+big-bytes-fixed width fits κs args a b x y p q = agree p q
 
-pub big-bytes24-fixed : Fixes (List ℕ) big-bytes24.Post (λ κs answer left. answer)
-big-bytes24-fixed κs args a b x y p q = agree p q
+pub little-bytes-fixed : (width : ℕ) (fits : Fits w64 width) → Fixes (List ℕ) (little-bytes.Post width fits) (λ κs answer left. answer)
+little-bytes-fixed width fits κs args a b x y p q = agree p q
 
-pub big-bytes32-fixed : Fixes (List ℕ) big-bytes32.Post (λ κs answer left. answer)
-big-bytes32-fixed κs args a b x y p q = agree p q
+pub number-from-fixed : Fixes ℕ number-from.Post (λ κs answer left. answer)
+number-from-fixed κs args a b x y p q = agree p q
 
-pub little-bytes32-fixed : Fixes (List ℕ) little-bytes32.Post (λ κs answer left. answer)
-little-bytes32-fixed κs args a b x y p q = agree p q
+pub needing-fixed : (T : RattleType) (laws : Laws T) (drop : Dict) → Fixes (Result T.Denot Refusal) (needing.Post T laws drop) (λ κs answer left. answer)
+needing-fixed T laws drop κs args a b x y p q = outcome_once a b (agree p q)

@@ -1,14 +1,15 @@
 -- Laws of numbers in bytes, over the width. A number is its two parts one behind the other, is 0 past the end, and
 -- reads back as it was written, cut to its width.
-use Prim.Native.Nat.{ℕ, zero, suc, ◌+◌, ◌*◌, ◌/◌, ◌%◌, ◌^◌, ◌≤◌, ◌<◌}
+use Prim.Native.Nat.{ℕ, zero, suc, ◌+◌, ◌-◌, ◌*◌, ◌/◌, ◌%◌, ◌^◌, ◌≤◌, ◌<◌}
 use mathlib.Core.Path.{◌≡◌, refl, sym, ap, ◌∙◌}
-use mathlib.Core.List.{List, [], ◌∷◌, ◌++◌, append_assoc}
-use native.Mathlib.Nat.{add-suc, suc-add, add-zero, zero-add, add_assoc, mul-pos, mul_assoc, add-mul, pow-suc, pow-succ', mul-add-div_right, mul-add-mod_self_right, mod-eq_of_lt}
+use mathlib.Core.List.{List, [], ◌∷◌, ◌++◌, append_assoc, append-nil}
+use native.Mathlib.Nat.{div-one, div-div-eq-div-mul, add-suc, suc-add, add-zero, zero-add, add_assoc, mul-pos, mul_assoc, add-mul, pow-suc, pow-succ', mul-add-div_right, mul-add-mod_self_right, mod-eq_of_lt}
 use native.Mathlib.Numerals.{add-one}
 use native.Mathlib.Omega.{arith}
 use lib.Arith.{mod-mul, digits_lt, digits_div}
 use lib.Dec.{lit<}
-use lib.ListN.{length, take, drop, length-append, length-drop, get_or-eq_default}
+use lib.ListN.{set, replicate, length-replicate, length, take, drop, length-append, length-drop, get_or-eq_default}
+use Rattle.std.proofs.lemmas.List.{set_at, replicate_more}
 use lib.Seq.{get_or_at, get_or-append-add, drop-cons, take-suc, get_or-drop}
 use Rattle.octets.specs.Number.{at, Octets, big_at, little_at, big_bytes, little_bytes}
 
@@ -84,6 +85,57 @@ pub length-little : (k n : ℕ) → length (little_bytes k n) ≡ k
 unfolding little_bytes
 length-little zero n = refl
 length-little (suc k) n = rw (length-append, length-little k n) (omega arith)
+
+-- ---- written a digit at a time, into zeros
+pub next-digit : (i n : ℕ) → n / 256 ^ i / 256 ≡ n / 256 ^ (i + 1)
+next-digit i n = rw (add-one i, pow-suc) (div-div-eq-div-mul n (256 ^ i) 256)
+
+big-begun : (width n : ℕ) → replicate width 0 ≡ replicate (width - 0) 0 ++ big_bytes 0 n
+unfolding big_bytes
+big-begun width n = let e : width - 0 ≡ width = omega arith in rw e (sym (append-nil (replicate width 0)))
+
+pub begun-big : (width n : ℕ) → (replicate width 0 ≡ replicate (width - 0) 0 ++ big_bytes 0 n) × (n ≡ n / 256 ^ 0)
+begun-big width n = (big-begun width n, sym (div-one n))
+
+little-begun : (width n : ℕ) → replicate width 0 ≡ little_bytes 0 n ++ replicate (width - 0) 0
+unfolding little_bytes
+little-begun width n = let e : width - 0 ≡ width = omega arith in rw e refl
+
+pub begun-little : (width n : ℕ) → (replicate width 0 ≡ little_bytes 0 n ++ replicate (width - 0) 0) × (n ≡ n / 256 ^ 0)
+begun-little width n = (little-begun width n, sym (div-one n))
+
+module _ (width i n : ℕ) (b : List ℕ) (more : i < width) where
+  digit-i : ℕ
+  digit-i = n / 256 ^ i % 256
+
+  left : ℕ
+  left = width - (i + 1)
+
+  lefts : width - i ≡ left + 1
+  unfolding left
+  lefts = omega arith
+
+  big-more : big_bytes (i + 1) n ≡ digit-i ∷ big_bytes i n
+  unfolding big_bytes digit-i
+  big-more = rw add-one refl
+
+  little-more : little_bytes (i + 1) n ≡ little_bytes i n ++ (digit-i ∷ [])
+  unfolding little_bytes digit-i
+  little-more = rw add-one refl
+
+  pub big-turn : b ≡ replicate (width - i) 0 ++ big_bytes i n → set b (width - 1 - i) (n / 256 ^ i % 256) ≡ replicate (width - (i + 1)) 0 ++ big_bytes (i + 1) n
+  unfolding left lefts digit-i
+  big-turn e =
+      let at : width - 1 - i ≡ left = omega arith in
+      let zeros : b ≡ replicate left 0 ++ 0 ∷ big_bytes i n =
+      e ∙ rw (lefts, ← replicate_more {X = ℕ} left 0, append_assoc) in
+      rw (at, zeros, big-more) (set_at (replicate left 0) 0 (big_bytes i n) digit-i left (length-replicate left 0))
+
+  pub little-turn : b ≡ little_bytes i n ++ replicate (width - i) 0 → set b i (n / 256 ^ i % 256) ≡ little_bytes (i + 1) n ++ replicate (width - (i + 1)) 0
+  unfolding left lefts digit-i
+  little-turn e =
+      let zeros : b ≡ little_bytes i n ++ 0 ∷ replicate left 0 = e ∙ rw (lefts, add-one left) in
+      rw (zeros, little-more, append_assoc) (set_at (little_bytes i n) 0 (replicate left 0) digit-i i (length-little i n))
 
 -- one digit more
 digit : (k n : ℕ) → n / 256 ^ k % 256 * 256 ^ k + n % 256 ^ k ≡ n % 256 ^ suc k

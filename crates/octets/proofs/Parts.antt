@@ -29,6 +29,21 @@ module _ (l : List ℕ) (p : Place) where
   unfolding part_of
   part-within = let e : p.start + p.len - p.start ≡ p.len = omega arith in rw e
 
+  -- a place cut to what there is, in its start and then in its length
+  pub part-capped : (s n : ℕ) → s ≡ min p.start (length l) → n ≡ min p.len (length l - s) → take (s + n - s) (drop s l) ≡ part_of l p
+  part-capped s n es en = go (lt-or-le p.start (length l)) (lt-or-le (length l - p.start) p.len)
+    where
+      go : (p.start < length l) ⊎ (length l ≤ p.start) → (length l - p.start < p.len) ⊎ (p.len ≤ length l - p.start) → take (s + n - s) (drop s l) ≡ part_of l p
+      go (inr h) _ = let e : s + n - s ≡ 0 = omega arith in rw e (part_none h)
+      go (inl h) (inl g) =
+          let e : s ≡ p.start = omega arith in
+          let f : s + n - s ≡ length l - p.start = omega arith in
+          rw (f, e) (part_cut g)
+      go (inl h) (inr g) =
+          let e : s ≡ p.start = omega arith in
+          let f : s + n - s ≡ p.start + p.len - p.start = omega arith in
+          rw (f, e) part-within
+
   pub length_part : p.start + p.len ≤ length l → length (part_of l p) ≡ p.len
   unfolding part_of
   length_part h = simp (length-take, length-drop) (omega arith)

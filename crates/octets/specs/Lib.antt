@@ -1,7 +1,6 @@
 -- Types that only src/ declares. Numbers are ℕ here, a bool is Bool, an f32 is Float, an array is a List.
--- enum Written: Bytes(usize), Refused(u8)
--- enum Done: Done, Refused(u8)
 -- type Place: start usize, len usize
+-- enum Refusal: Empty, Short, Ends, FewValues, TooLong, NoRoom, Outside, AddressLength, WrongChecksum, Trailing, Apart, OtherKind, WrongField, WrongSizes, PastEnd, Malformed, RecordChecksum, NamedTwice
 pub mod Refusals
 pub mod Outcome
 pub mod Choice

@@ -3,52 +3,35 @@
 #![tactic(auto)]
 
 ghost use Rattle.std.specs.Prelude.{◌≡◌, [], ◌∷◌, length};
-ghost use Rattle.octets.specs.Outcome.{written};
+ghost use Rattle.octets.specs.Outcome.{outcome};
 ghost use Rattle.octets.specs.Over.{into, into_at};
 ghost use Rattle.octets.specs.Place.{floats_at, part_of, is_outside};
-ghost use Rattle.octets.specs.Reading.{rest};
+ghost use Rattle.octets.specs.Reading.{rest, needing};
 
 pub mod number;
 pub mod refusal;
 
-// What a function that writes answers: how many bytes it wrote, or the number of its refusal.
-#[derive(Clone, Copy)]
-pub enum Written {
-    Bytes(usize),
-    Refused(u8),
-}
+pub use refusal::Refusal;
 
-// What a function that only does something answers.
-#[derive(Clone, Copy)]
-pub enum Done {
-    Done,
-    Refused(u8),
-}
-
-// Writes bytes over the start of out, whole or not at all.
-pub fn put(bytes: &[u8], out: &mut [u8]) -> Written
-    ensures { (written result, out.new) ≡ into bytes.now out.old }
+// Writes bytes over the start of out, whole or not at all, and answers how many it wrote.
+#[tactic(auto, using(crate::proofs::Choosing::tests))]
+pub fn put(bytes: &[u8], out: &mut [u8]) -> Result<usize, Refusal>
+    ensures { (outcome result, out.new) ≡ into bytes.now out.old }
 {
     if out.len() < bytes.len() {
-        return Written::Refused(refusal::NO_ROOM);
+        return Err(Refusal::NoRoom);
     }
-    let mut i = 0;
-    while i < bytes.len() {
-        out[i] = bytes[i];
-        i += 1;
-    }
-    Written::Bytes(bytes.len())
+    out[..bytes.len()].copy_from_slice(bytes);
+    Ok(bytes.len())
 }
 
 // Writes bytes over those from a place of a memory on, whole or not at all.
-pub fn put_at(bytes: &[u8], place: usize, memory: &mut [u8]) -> Written
-    ensures { (written result, memory.new) ≡ into_at place bytes.now memory.old }
+#[tactic(auto, using(crate::proofs::Choosing::tests))]
+pub fn put_at(bytes: &[u8], place: usize, memory: &mut [u8]) -> Result<usize, Refusal>
+    ensures { (outcome result, memory.new) ≡ into_at place bytes.now memory.old }
 {
-    if memory.len() < place {
-        return Written::Refused(refusal::OUTSIDE);
-    }
-    if memory.len() - place < bytes.len() {
-        return Written::Refused(refusal::OUTSIDE);
+    if memory.len() < place || memory.len() - place < bytes.len() {
+        return Err(Refusal::Outside);
     }
     put(bytes, &mut memory[place..])
 }
@@ -73,13 +56,7 @@ pub struct Place {
 pub fn is_outside(place: Place, have: usize) -> bool
     ensures { result ≡ is_outside place have }
 {
-    if have < place.start {
-        return true;
-    }
-    if have - place.start < place.len {
-        return true;
-    }
-    false
+    have < place.start || have - place.start < place.len
 }
 
 // Whether count floats from start run past so many bytes: divided, since four times a count can
@@ -87,25 +64,16 @@ pub fn is_outside(place: Place, have: usize) -> bool
 pub fn floats_outside(start: usize, count: usize, have: usize) -> bool
     ensures { result ≡ is_outside (floats_at start count) have }
 {
-    if have < start {
-        return true;
-    }
-    if (have - start) / 4 < count {
-        return true;
-    }
-    false
+    have < start || (have - start) / 4 < count
 }
 
 // The place of what is left behind the first n bytes.
 pub fn rest_of(bytes: &[u8], n: usize) -> Place
     ensures { result ≡ rest n bytes.now }
 {
-    if bytes.len() < n {
-        return Place { start: n, len: 0 };
-    }
     Place {
         start: n,
-        len: bytes.len() - n,
+        len: bytes.len().saturating_sub(n),
     }
 }
 
@@ -113,14 +81,18 @@ pub fn rest_of(bytes: &[u8], n: usize) -> Place
 pub fn part(bytes: &[u8], place: Place) -> &[u8]
     ensures { result.now ≡ part_of bytes.now place }
 {
-    let start = place.start;
-    let len = place.len;
-    if bytes.len() <= start {
-        return &bytes[0..0];
+    let start = place.start.min(bytes.len());
+    let len = place.len.min(bytes.len() - start);
+    &bytes[start..start + len]
+}
+
+// What is read of a packet, where it has the n bytes that it needs.
+#[tactic(auto, using(crate::proofs::Choosing::tests))]
+pub fn needing<T: Drop>(packet: &[u8], n: usize, value: T) -> Result<T, Refusal>
+    ensures { outcome result ≡ needing n packet.now value }
+{
+    if packet.len() < n {
+        return Err(Refusal::Ends);
     }
-    if bytes.len() - start < len {
-        return &bytes[start..];
-    }
-    let end = start + len;
-    &bytes[start..end]
+    Ok(value)
 }

@@ -7,10 +7,7 @@ ghost use Rattle.octets.specs.Number.{at, big_at, little_at, big_bytes, little_b
 pub fn byte(bytes: &[u8], place: usize) -> u8
     ensures { result ≡ at bytes.now place }
 {
-    if bytes.len() <= place {
-        return 0;
-    }
-    bytes[place]
+    bytes.get(place).copied().unwrap_or(0)
 }
 
 // Two bytes, the most significant first.
@@ -63,44 +60,28 @@ pub fn little32(bytes: &[u8], place: usize) -> u32
     little16(bytes, place) as u32 + little16(bytes, place + 2) as u32 * 65536
 }
 
-// The two bytes of a number, the most significant first.
-pub fn big_bytes16(n: u16) -> [u8; 2]
-    ensures { result ≡ big_bytes 2 n }
+// The low N bytes of a number, the most significant first.
+pub fn big_bytes<const N: usize>(n: u32) -> [u8; N]
+    ensures { result ≡ big_bytes N n }
 {
-    [(n / 256 % 256) as u8, (n % 256) as u8]
+    let mut bytes = [0; N];
+    let mut rest = n;
+    for i in 0..N {
+        bytes[N - 1 - i] = (rest % 256) as u8;
+        rest /= 256;
+    }
+    bytes
 }
 
-// The low three bytes of a number, the most significant first.
-pub fn big_bytes24(n: u32) -> [u8; 3]
-    ensures { result ≡ big_bytes 3 n }
+// The same, the least significant first.
+pub fn little_bytes<const N: usize>(n: u32) -> [u8; N]
+    ensures { result ≡ little_bytes N n }
 {
-    [
-        (n / 65536 % 256) as u8,
-        (n / 256 % 256) as u8,
-        (n % 256) as u8,
-    ]
-}
-
-// The four bytes of a number, the most significant first.
-pub fn big_bytes32(n: u32) -> [u8; 4]
-    ensures { result ≡ big_bytes 4 n }
-{
-    [
-        (n / 16777216 % 256) as u8,
-        (n / 65536 % 256) as u8,
-        (n / 256 % 256) as u8,
-        (n % 256) as u8,
-    ]
-}
-
-// The four bytes of a number, the least significant first.
-pub fn little_bytes32(n: u32) -> [u8; 4]
-    ensures { result ≡ little_bytes 4 n }
-{
-    [
-        (n % 256) as u8,
-        (n / 256 % 256) as u8,
-        (n / 65536 % 256) as u8,
-        (n / 16777216 % 256) as u8,
-    ]
+    let mut bytes = [0; N];
+    let mut rest = n;
+    for byte in bytes.iter_mut() {
+        *byte = (rest % 256) as u8;
+        rest /= 256;
+    }
+    bytes
 }

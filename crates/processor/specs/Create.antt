@@ -8,12 +8,6 @@ use Rattle.facts.specs.Eeprom.{at_firmware_version, at_timestamp, at_source, at_
 use Rattle.facts.specs.declared.probe.DeviceKind.{DeviceKind}
 use Rattle.processor.specs.Memory.{Memory, memory, Store, to_eeprom, put_at, store, oversized}
 use Rattle.processor.specs.declared.Device.{Device}
-use Rattle.processor.specs.declared.create.Made.{Made}
-use Rattle.processor.specs.declared.create.Made.TheVariants.{Is, Refused}
-
-abbrev pub made : Made → Outcome Device
-made (Is d) = accepted d
-made (Refused k) = refused k
 
 -- "Bare and new are given hw_id, dsp_version and kind; firmware is 1.13."
 abbrev pub device_of : ℕ → ℕ → DeviceKind → ℕ → Device

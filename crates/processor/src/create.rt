@@ -1,20 +1,14 @@
 // Devices on lent memories: a bare one, and one as the Rust's mock makes it. (MockDevice::new)
-ghost use Rattle.std.specs.Prelude.{◌≡◌, [], ◌<◌, length, replicate, get_or};
+ghost use Rattle.std.specs.Prelude.{◌≡◌, [], length, replicate};
+ghost use Rattle.octets.specs.Outcome.{outcome};
 ghost use Rattle.facts.specs.declared.probe.DeviceKind.TheVariants.{Generic};
 ghost use Rattle.processor.specs.Memory.{memory, store};
-ghost use Rattle.processor.specs.Create.{made, device_of, bare_of, new_of, new_writes, any_beyond, with_meters};
+ghost use Rattle.processor.specs.Create.{device_of, bare_of, new_of, new_writes, any_beyond, with_meters};
 
 use crate::{Device, LARGEST, put_bytes, too_large};
 use facts::eeprom as address;
 use facts::probe::DeviceKind;
-use octets::{number, refusal};
-
-// A device, or the number of the refusal.
-#[derive(Clone, Copy)]
-pub enum Made {
-    Is(Device),
-    Refused(u8),
-}
+use octets::{Refusal, number};
 
 // The pattern of -60.0, which a meter shows first.
 const METER: u32 = 0xC270_0000;
@@ -34,15 +28,15 @@ pub fn bare(
     fir_max_taps: u16,
     eeprom: &mut [u8],
     settings: &mut [u32],
-) -> Made
-    ensures { (made result, memory eeprom.new settings.new) ≡ bare_of (device_of hw_id dsp_version kind fir_max_taps) (memory eeprom.old settings.old) }
+) -> Result<Device, Refusal>
+    ensures { (outcome result, memory eeprom.new settings.new) ≡ bare_of (device_of hw_id dsp_version kind fir_max_taps) (memory eeprom.old settings.old) }
 {
     if too_large(eeprom.len(), settings.len()) {
-        return Made::Refused(refusal::WRONG_SIZES);
+        return Err(Refusal::WrongSizes);
     }
     erase(eeprom);
-    clear(settings);
-    Made::Is(device_of(hw_id, dsp_version, kind, fir_max_taps))
+    settings.fill(0);
+    Ok(device_of(hw_id, dsp_version, kind, fir_max_taps))
 }
 
 // Meters are addresses of settings.
@@ -55,25 +49,23 @@ pub fn new(
     meters: &[u16],
     eeprom: &mut [u8],
     settings: &mut [u32],
-) -> Made
-    ensures { (made result, memory eeprom.new settings.new) ≡ new_of (device_of hw_id dsp_version kind fir_max_taps) meters.now (memory eeprom.old settings.old) }
+) -> Result<Device, Refusal>
+    ensures { (outcome result, memory eeprom.new settings.new) ≡ new_of (device_of hw_id dsp_version kind fir_max_taps) meters.now (memory eeprom.old settings.old) }
 {
-    if eeprom.len() != LARGEST {
-        return Made::Refused(refusal::WRONG_SIZES);
-    }
-    if LARGEST < settings.len() {
-        return Made::Refused(refusal::WRONG_SIZES);
+    if eeprom.len() != LARGEST || LARGEST < settings.len() {
+        return Err(Refusal::WrongSizes);
     }
     if any_beyond(meters, settings.len()) {
-        return Made::Refused(refusal::OUTSIDE);
+        return Err(Refusal::Outside);
     }
     erase(eeprom);
-    clear(settings);
+    settings.fill(0);
     write_defaults(dsp_version, eeprom);
     set_meters(meters, settings);
-    Made::Is(device_of(hw_id, dsp_version, kind, fir_max_taps))
+    Ok(device_of(hw_id, dsp_version, kind, fir_max_taps))
 }
 
+// The four stay apart: `default`, `bare` and `new` are public and take them so, which may not change.
 fn device_of(hw_id: u8, dsp_version: u8, kind: DeviceKind, fir_max_taps: u16) -> Device
     ensures { result ≡ device_of hw_id dsp_version kind fir_max_taps }
 {
@@ -91,33 +83,23 @@ fn device_of(hw_id: u8, dsp_version: u8, kind: DeviceKind, fir_max_taps: u16) ->
 pub fn erase(eeprom: &mut [u8])
     ensures { eeprom.new ≡ replicate (length eeprom.old) 0xFF }
 {
-    let mut i = 0;
-    while i < eeprom.len() {
-        eeprom[i] = 0xff;
-        i += 1;
-    }
-}
-
-fn clear(settings: &mut [u32])
-    ensures { settings.new ≡ replicate (length settings.old) 0 }
-{
-    let mut i = 0;
-    while i < settings.len() {
-        settings[i] = 0;
-        i += 1;
-    }
+    eeprom.fill(0xff);
 }
 
 fn write_defaults(dsp_version: u8, eeprom: &mut [u8])
     ensures { eeprom.new ≡ (store (new_writes dsp_version) (memory eeprom.old [])).eeprom }
 {
     put_bytes(address::FIRMWARE_VERSION, &[dsp_version], eeprom);
-    put_bytes(address::TIMESTAMP, &number::big_bytes32(42424242), eeprom);
-    put_bytes(address::SOURCE, &number::big_bytes16(0), eeprom);
+    put_bytes(
+        address::TIMESTAMP,
+        &number::big_bytes::<4>(42424242),
+        eeprom,
+    );
+    put_bytes(address::SOURCE, &number::big_bytes::<2>(0), eeprom);
     put_bytes(address::MASTER_VOLUME, &[7], eeprom);
     put_bytes(address::MUTE, &[0], eeprom);
-    put_bytes(address::PRESET, &number::big_bytes16(0), eeprom);
-    put_bytes(address::SERIAL, &number::big_bytes16(12345), eeprom);
+    put_bytes(address::PRESET, &number::big_bytes::<2>(0), eeprom);
+    put_bytes(address::SERIAL, &number::big_bytes::<2>(12345), eeprom);
     // without it a restore says that the dsp is corrupted
     put_bytes(0xffa3, &[3], eeprom);
 }
@@ -125,29 +107,14 @@ fn write_defaults(dsp_version: u8, eeprom: &mut [u8])
 fn any_beyond(meters: &[u16], settings: usize) -> bool
     ensures { result ≡ any_beyond settings meters.now }
 {
-    let mut i = 0;
-    while i < meters.len() {
-        if settings <= meter(meters, i) as usize {
-            return true;
-        }
-        i += 1;
-    }
-    false
+    meters.iter().any(|meter| settings <= *meter as usize)
 }
 
+#[tactic(auto, using(crate::proofs::Meters::more_meters))]
 fn set_meters(meters: &[u16], settings: &mut [u32])
     ensures { settings.new ≡ with_meters meters.now settings.old }
 {
-    let mut i = 0;
-    while i < meters.len() {
-        octets::put_word(meter(meters, i) as usize, METER, settings);
-        i += 1;
+    for meter in meters {
+        octets::put_word(*meter as usize, METER, settings);
     }
-}
-
-fn meter(meters: &[u16], i: usize) -> u16
-    requires { i < length meters.now }
-    ensures { result ≡ get_or meters.now i 0 }
-{
-    meters[i]
 }

@@ -1,79 +1,69 @@
 // Calls that write the EEPROM. Every place is checked first.
-ghost use Rattle.std.specs.Prelude.{◌≡◌, ◌-◌};
-ghost use Rattle.octets.specs.Outcome.{done};
+ghost use Rattle.std.specs.Prelude.{◌≡◌};
+ghost use Rattle.octets.specs.Outcome.{outcome};
 ghost use Rattle.processor.specs.Calls.{write_bytes, write_u8, write_u16, write_u32, set_serial, set_timestamp};
 
 use crate::LARGEST;
 use facts::eeprom as address;
-use octets::{Done, Written, number, refusal};
+use octets::{Refusal, number};
 
-pub fn write_eeprom_u8(addr: u16, value: u8, eeprom: &mut [u8]) -> Done
-    ensures { (done result, eeprom.new) ≡ write_u8 addr value eeprom.old }
+pub fn write_eeprom_u8(addr: u16, value: u8, eeprom: &mut [u8]) -> Result<(), Refusal>
+    ensures { (outcome result, eeprom.new) ≡ write_u8 addr value eeprom.old }
 {
     write_bytes(addr, &[value], eeprom)
 }
 
-pub fn write_eeprom_u16(addr: u16, value: u16, eeprom: &mut [u8]) -> Done
-    ensures { (done result, eeprom.new) ≡ write_u16 addr value eeprom.old }
+pub fn write_eeprom_u16(addr: u16, value: u16, eeprom: &mut [u8]) -> Result<(), Refusal>
+    ensures { (outcome result, eeprom.new) ≡ write_u16 addr value eeprom.old }
 {
-    write_bytes(addr, &number::big_bytes16(value), eeprom)
+    write_bytes(addr, &number::big_bytes::<2>(value as u32), eeprom)
 }
 
-pub fn write_eeprom_u32(addr: u16, value: u32, eeprom: &mut [u8]) -> Done
-    ensures { (done result, eeprom.new) ≡ write_u32 addr value eeprom.old }
+pub fn write_eeprom_u32(addr: u16, value: u32, eeprom: &mut [u8]) -> Result<(), Refusal>
+    ensures { (outcome result, eeprom.new) ≡ write_u32 addr value eeprom.old }
 {
-    write_bytes(addr, &number::big_bytes32(value), eeprom)
+    write_bytes(addr, &number::big_bytes::<4>(value), eeprom)
 }
 
 // A serial number is held less 900,000.
-pub fn set_serial(value: u32, eeprom: &mut [u8]) -> Done
-    ensures { (done result, eeprom.new) ≡ set_serial value eeprom.old }
+pub fn set_serial(value: u32, eeprom: &mut [u8]) -> Result<(), Refusal>
+    ensures { (outcome result, eeprom.new) ≡ set_serial value eeprom.old }
 {
-    write_eeprom_u32(address::SERIAL, saturating_sub(value, 900_000), eeprom)
+    write_eeprom_u32(address::SERIAL, value.saturating_sub(900_000), eeprom)
 }
 
 // Its low half stands at the 2x4's address too, which is the lower of the two.
-pub fn set_timestamp(value: u32, eeprom: &mut [u8]) -> Done
-    ensures { (done result, eeprom.new) ≡ set_timestamp value eeprom.old }
+#[tactic(auto, using(octets::proofs::Choosing::tests))]
+pub fn set_timestamp(value: u32, eeprom: &mut [u8]) -> Result<(), Refusal>
+    ensures { (outcome result, eeprom.new) ≡ set_timestamp value eeprom.old }
 {
     if LARGEST < eeprom.len() {
-        return Done::Refused(refusal::WRONG_SIZES);
+        return Err(Refusal::WrongSizes);
     }
     if eeprom.len() < address::TIMESTAMP as usize + 4 {
-        return Done::Refused(refusal::OUTSIDE);
+        return Err(Refusal::Outside);
     }
-    let low = (value % 0x1_0000) as u16;
-    octets::put_at(
-        &number::big_bytes32(value),
+    let low = value % 0x1_0000;
+    let _ = octets::put_at(
+        &number::big_bytes::<4>(value),
         address::TIMESTAMP as usize,
         eeprom,
     );
-    octets::put_at(
-        &number::big_bytes16(low),
+    let _ = octets::put_at(
+        &number::big_bytes::<2>(low),
         address::TIMESTAMP_2X4 as usize,
         eeprom,
     );
-    Done::Done
+    Ok(())
 }
 
 #[tactic(auto, using(octets::proofs::Choosing::tests))]
-fn write_bytes(addr: u16, bytes: &[u8], eeprom: &mut [u8]) -> Done
-    ensures { (done result, eeprom.new) ≡ write_bytes addr bytes.now eeprom.old }
+fn write_bytes(addr: u16, bytes: &[u8], eeprom: &mut [u8]) -> Result<(), Refusal>
+    ensures { (outcome result, eeprom.new) ≡ write_bytes addr bytes.now eeprom.old }
 {
     if LARGEST < eeprom.len() {
-        return Done::Refused(refusal::WRONG_SIZES);
+        return Err(Refusal::WrongSizes);
     }
-    match octets::put_at(bytes, addr as usize, eeprom) {
-        Written::Bytes(_) => Done::Done,
-        Written::Refused(k) => Done::Refused(k),
-    }
-}
-
-fn saturating_sub(a: u32, b: u32) -> u32
-    ensures { result ≡ a - b }
-{
-    if a < b {
-        return 0;
-    }
-    a - b
+    octets::put_at(bytes, addr as usize, eeprom)?;
+    Ok(())
 }

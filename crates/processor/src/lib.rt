@@ -30,18 +30,12 @@ pub const LARGEST: usize = 65536;
 pub fn too_large(eeprom: usize, settings: usize) -> bool
     ensures { result ≡ too_large eeprom settings }
 {
-    if LARGEST < eeprom {
-        return true;
-    }
-    if LARGEST < settings {
-        return true;
-    }
-    false
+    LARGEST < eeprom || LARGEST < settings
 }
 
 // Writes that are inside; others write nothing.
 fn put_bytes(addr: u16, bytes: &[u8], eeprom: &mut [u8])
     ensures { eeprom.new ≡ put_at addr bytes.now eeprom.old }
 {
-    octets::put_at(bytes, addr as usize, eeprom);
+    let _ = octets::put_at(bytes, addr as usize, eeprom);
 }

@@ -7,12 +7,10 @@ pub fn print(rt: &impl Print, text: &[u8]) -> io::Result<()> {
 
 // The first bytes of an output, where a text was written.
 pub fn print_front(rt: &impl Print, output: &[u8], len: usize) -> io::Result<()> {
-    if len <= output.len() {
-        rt.write_all(&output[0..len])?;
-    }
-    Ok(())
+    output.get(..len).map_or(Ok(()), |text| rt.write_all(text))
 }
 
-pub fn print_refusal(rt: &impl Print, number: u8) -> io::Result<()> {
+pub fn print_refusal(rt: &impl Print, refusal: impl Into<u8>) -> io::Result<()> {
+    let number: u8 = refusal.into();
     println!(rt; "refused {number}")
 }

@@ -7,19 +7,6 @@ use Rattle.views.specs.declared.memory.MemoryView.{MemoryView}
 use Rattle.views.specs.declared.floats.FloatView.{FloatView}
 use Rattle.responses.specs.declared.Responses.{Responses}
 use Rattle.responses.specs.declared.Responses.TheVariants.{Ack, Read, MemoryData, FloatData, HardwareId as Identity, FirLoadSize, ConfigChanged, Unk02, Unknown}
-use Rattle.responses.specs.declared.kind.Identified.{Identified}
-use Rattle.responses.specs.declared.kind.Identified.TheVariants.{Is as IdIs, Refused as IdRefused}
-use Rattle.responses.specs.declared.kind.ReadSize.{ReadSize}
-use Rattle.responses.specs.declared.kind.ReadSize.TheVariants.{Is as SizeIs, Refused as SizeRefused}
-
--- answers
-abbrev pub identified : Identified → Outcome HardwareId
-identified (IdIs id) = accepted id
-identified (IdRefused k) = refused k
-
-abbrev pub read_size : ReadSize → Outcome ℕ
-read_size (SizeIs n) = accepted n
-read_size (SizeRefused k) = refused k
 
 abbrev pub is_accepted : {A : Type 0} → Outcome A → Bool
 is_accepted (accepted a) = true

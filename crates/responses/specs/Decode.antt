@@ -10,12 +10,6 @@ use Rattle.views.specs.View.{memory_in, floats_in}
 use Rattle.responses.specs.declared.Responses.{Responses}
 use Rattle.responses.specs.declared.Responses.TheVariants.{Ack, Read, MemoryData, FloatData, HardwareId, FirLoadSize, ConfigChanged, Unknown}
 use Rattle.responses.specs.declared.Values.TheVariants.{Chunks}
-use Rattle.responses.specs.declared.decode.ReadResponse.{ReadResponse}
-use Rattle.responses.specs.declared.decode.ReadResponse.TheVariants.{Response, Refused}
-
-abbrev pub read_response : ReadResponse → Outcome Responses
-read_response (Response r) = accepted r
-read_response (Refused k) = refused k
 
 -- "0x02 always takes a 2-byte address, then chunks of four, the last perhaps shorter"
 abbrev pub read_data_of : List ℕ → Outcome Responses

@@ -1,35 +1,38 @@
 // Writing responses: each is a row of fields. (Responses::to_bytes)
 ghost use Rattle.std.specs.Prelude.{◌≡◌};
-ghost use Rattle.octets.specs.Outcome.{written};
-ghost use Rattle.fields.specs.Row.{row_into, row_frame_into, fields_of, padded};
+ghost use Rattle.octets.specs.Outcome.{outcome};
+ghost use Rattle.fields.specs.Row.{row_into, row_frame_into, padded};
 ghost use Rattle.responses.specs.declared.Responses.TheVariants.{MemoryData, FloatData};
 ghost use Rattle.responses.specs.Encode.{response_row, values_field};
 
 use crate::{Responses, Values};
 use fields::row;
-use fields::row::{Cell, Field};
-use octets::Written;
+use fields::row::Field;
+use octets::Refusal;
 use views::floats::FloatView;
 use views::memory::MemoryView;
 
 impl Responses {
     // Writes the response's packet over the start of out. A payload stands in the bytes lent beside.
-    pub fn to_bytes(self, payload: &[u8], out: &mut [u8]) -> Written
-        ensures { (written result, out.new) ≡ row_into payload.now (response_row self) out.old }
+    #[tactic(auto, using(fields::proofs::Rows::encoded_padded))]
+    pub fn to_bytes(self, payload: &[u8], out: &mut [u8]) -> Result<usize, Refusal>
+        ensures { (outcome result, out.new) ≡ row_into payload.now (response_row self) out.old }
     {
         row::write(response_row(self), payload, out)
     }
 
     // Writes the response's frame.
-    pub fn to_frame(self, payload: &[u8], out: &mut [u8]) -> Written
-        ensures { (written result, out.new) ≡ row_frame_into payload.now (response_row self) out.old }
+    #[tactic(auto, using(fields::proofs::Rows::encoded_padded))]
+    pub fn to_frame(self, payload: &[u8], out: &mut [u8]) -> Result<usize, Refusal>
+        ensures { (outcome result, out.new) ≡ row_frame_into payload.now (response_row self) out.old }
     {
         row::frame(response_row(self), payload, out)
     }
 }
 
-fn response_row(response: Responses) -> [Cell; 8]
-    ensures { fields_of result ≡ padded (response_row response) }
+#[tactic(auto, unfolding(fields::specs::Row::padded, fields::specs::Row::nothings))]
+fn response_row(response: Responses) -> [Field; 8]
+    ensures { result ≡ padded (response_row response) }
 {
     match response {
         Responses::Ack => row::row1(Field::Nothing),
@@ -56,19 +59,18 @@ fn response_row(response: Responses) -> [Cell; 8]
     }
 }
 
-fn memory_row(view: MemoryView) -> [Cell; 8]
-    ensures { fields_of result ≡ padded (response_row (MemoryData view)) }
+fn memory_row(view: MemoryView) -> [Field; 8]
+    ensures { result ≡ padded (response_row (MemoryData view)) }
 {
-    let data = view.data;
     row::row3(
         Field::Byte(0x05),
         Field::Word(view.base),
-        Field::Payload(data),
+        Field::Payload(view.data),
     )
 }
 
-fn floats_row(view: FloatView) -> [Cell; 8]
-    ensures { fields_of result ≡ padded (response_row (FloatData view)) }
+fn floats_row(view: FloatView) -> [Field; 8]
+    ensures { result ≡ padded (response_row (FloatData view)) }
 {
     row::row3(
         Field::Byte(0x14),

@@ -1,15 +1,15 @@
 // Responses of the processor. (commands.rs)
 #![tactic(auto)]
 
-ghost use Rattle.std.specs.Prelude.{◌≡◌, min};
+ghost use Rattle.std.specs.Prelude.{◌≡◌};
+ghost use Rattle.octets.specs.Outcome.{outcome};
 ghost use Rattle.responses.specs.Values.{values_count, nth_value};
-ghost use Rattle.fields.specs.Value.{read_value};
 ghost use Rattle.responses.specs.declared.Values.TheVariants.{Chunks};
 
 use facts::HardwareId;
 use fields::addr::Addr;
-use fields::value::{ReadValue, Value};
-use octets::{Place, refusal};
+use fields::value::Value;
+use octets::{Place, Refusal};
 use views::floats::FloatView;
 use views::memory::MemoryView;
 
@@ -47,59 +47,40 @@ impl Values {
         ensures { result ≡ values_count self }
     {
         match self {
-            Values::Chunks(place) => {
-                let len = place.len;
-                if len % 4 == 0 {
-                    return len / 4;
-                }
-                len / 4 + 1
-            }
+            Values::Chunks(place) => place.len.div_ceil(4),
             Values::One(_) => 1,
         }
     }
 
     // Value number i; the bytes of those in chunks are lent beside.
-    pub fn get(self, bytes: &[u8], i: usize) -> ReadValue
-        ensures { read_value result ≡ nth_value self bytes.now i }
+    #[tactic(auto, using(octets::proofs::Choosing::tests))]
+    pub fn get(self, bytes: &[u8], i: usize) -> Result<Value, Refusal>
+        ensures { outcome result ≡ nth_value self bytes.now i }
     {
         match self {
             Values::Chunks(place) => chunk(place, bytes, i),
             Values::One(value) => {
                 if i == 0 {
-                    return ReadValue::Is(value);
+                    Ok(value)
+                } else {
+                    Err(Refusal::Outside)
                 }
-                ReadValue::Refused(refusal::OUTSIDE)
             }
         }
     }
 }
 
 // Chunk number i of the bytes at a place.
-fn chunk(place: Place, bytes: &[u8], i: usize) -> ReadValue
-    ensures { read_value result ≡ nth_value (Chunks place) bytes.now i }
+#[tactic(auto, using(octets::proofs::Choosing::tests, octets::proofs::Parts::found_inside))]
+fn chunk(place: Place, bytes: &[u8], i: usize) -> Result<Value, Refusal>
+    ensures { outcome result ≡ nth_value (Chunks place) bytes.now i }
 {
-    let all = place.len;
-    if octets::is_outside(place, bytes.len()) {
-        return ReadValue::Refused(refusal::OUTSIDE);
-    }
     // four times i need not fit
-    if all / 4 < i {
-        return ReadValue::Refused(refusal::OUTSIDE);
+    if octets::is_outside(place, bytes.len()) || place.len.div_ceil(4) <= i {
+        return Err(Refusal::Outside);
     }
     let at = i * 4;
-    if all <= at {
-        return ReadValue::Refused(refusal::OUTSIDE);
-    }
     let start = place.start + at;
-    let len = at_most_4(all - at);
-    ReadValue::Is(Value::at(bytes, Place { start, len }))
-}
-
-fn at_most_4(n: usize) -> usize
-    ensures { result ≡ min 4 n }
-{
-    if n < 4 {
-        return n;
-    }
-    4
+    let len = (place.len - at).min(4);
+    Ok(Value::at(bytes, Place { start, len }))
 }

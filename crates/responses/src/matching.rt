@@ -18,19 +18,19 @@ pub fn matches_response(command: Commands, response: Responses) -> bool
         Commands::FirLoadStart { .. } => response.is_fir_size(),
         Commands::Unk07 { .. } => is_unk02(response),
         Commands::Read { .. } => is_read(response),
-        Commands::WriteMemory { .. } => response.is_ack(),
-        Commands::SetSource { .. } => response.is_ack(),
-        Commands::SetMute { .. } => response.is_ack(),
-        Commands::SetVolume { .. } => response.is_ack(),
-        Commands::WriteBiquad { .. } => response.is_ack(),
-        Commands::WriteBiquadBypass { .. } => response.is_ack(),
-        Commands::Write { .. } => response.is_ack(),
-        Commands::FirLoadData { .. } => response.is_ack(),
-        Commands::FirLoadEnd => response.is_ack(),
-        Commands::BulkLoad { .. } => response.is_ack(),
-        Commands::BulkLoadFilterData { .. } => response.is_ack(),
-        Commands::DiracBypass { .. } => response.is_ack(),
-        Commands::SwitchMux { .. } => response.is_ack(),
+        Commands::WriteMemory { .. }
+        | Commands::SetSource { .. }
+        | Commands::SetMute { .. }
+        | Commands::SetVolume { .. }
+        | Commands::WriteBiquad { .. }
+        | Commands::WriteBiquadBypass { .. }
+        | Commands::Write { .. }
+        | Commands::FirLoadData { .. }
+        | Commands::FirLoadEnd
+        | Commands::BulkLoad { .. }
+        | Commands::BulkLoadFilterData { .. }
+        | Commands::DiracBypass { .. }
+        | Commands::SwitchMux { .. } => response.is_ack(),
         Commands::Unknown { .. } => true,
     }
 }
@@ -40,13 +40,7 @@ fn is_memory(response: Responses, addr: u16, size: u8) -> bool
     ensures { result ≡ is_memory addr size (by_kind response).memory }
 {
     match response {
-        Responses::MemoryData(view) => {
-            let data = view.data;
-            if view.base != addr {
-                return false;
-            }
-            data.len == size as usize
-        }
+        Responses::MemoryData(view) => view.base == addr && view.data.len == size as usize,
         _ => false,
     }
 }
@@ -56,12 +50,7 @@ fn are_floats(response: Responses, addr: u16, len: u8) -> bool
     ensures { result ≡ are_floats addr len (by_kind response).floats }
 {
     match response {
-        Responses::FloatData(view) => {
-            if view.base != addr {
-                return false;
-            }
-            view.count == len as usize
-        }
+        Responses::FloatData(view) => view.base == addr && view.count == len as usize,
         _ => false,
     }
 }
@@ -69,17 +58,11 @@ fn are_floats(response: Responses, addr: u16, len: u8) -> bool
 fn is_read(response: Responses) -> bool
     ensures { result ≡ is_accepted (by_kind response).read }
 {
-    match response {
-        Responses::Read { addr: _, data: _ } => true,
-        _ => false,
-    }
+    matches!(response, Responses::Read { .. })
 }
 
 fn is_unk02(response: Responses) -> bool
     ensures { result ≡ is_accepted (by_kind response).unk02 }
 {
-    match response {
-        Responses::Unk02 => true,
-        _ => false,
-    }
+    matches!(response, Responses::Unk02)
 }

@@ -3,15 +3,13 @@
 #![tactic(auto)]
 
 use images::export::export;
-use octets::{Done, Written};
-use programs::lent::*;
+use programs::lent::front;
 use programs::prints::*;
 use programs::reads::read_full;
 use saves::replay::replay;
 use std::io;
 use std::io::Read;
 use streams::judge::judge;
-use streams::shape::Judged;
 
 // The most bytes of a save that is read: as many as bench keeps.
 const LONGEST_READ: usize = 1048576;
@@ -33,6 +31,7 @@ fn main(rt: HostRuntime) -> io::Result<()> {
     )
 }
 
+// Tried without it and slower: where `main` lends an array of a million elements as a slice, its check takes over a minute.
 fn run(
     rt: &impl Print,
     stdin: &mut impl Read,
@@ -56,7 +55,7 @@ fn read_and_print(
     if LONGEST_READ < n {
         return print(rt, b"bad input: longer than 1048576 bytes\n");
     }
-    judge_and_print(rt, &input[0..n], eeprom, settings, output)
+    judge_and_print(rt, &input[..n], eeprom, settings, output)
 }
 
 fn judge_and_print(
@@ -67,12 +66,12 @@ fn judge_and_print(
     output: &mut [u8],
 ) -> io::Result<()> {
     match judge(save) {
-        Judged::Sound(shape) => {
-            let e = front(eeprom, shape.eeprom);
-            let s = front_words(settings, shape.settings);
-            print_restored(rt, save, e, s, output)
+        Ok(shape) => {
+            let eeprom = front(eeprom, shape.eeprom);
+            let settings = front(settings, shape.settings);
+            print_restored(rt, save, eeprom, settings, output)
         }
-        Judged::Refused(number) => print_refusal(rt, number),
+        Err(number) => print_refusal(rt, number),
     }
 }
 
@@ -84,14 +83,14 @@ fn print_restored(
     output: &mut [u8],
 ) -> io::Result<()> {
     match replay(eeprom, settings, save) {
-        Done::Done => print_hex(rt, &eeprom[..], output),
-        Done::Refused(number) => print_refusal(rt, number),
+        Ok(()) => print_hex(rt, eeprom, output),
+        Err(number) => print_refusal(rt, number),
     }
 }
 
 fn print_hex(rt: &impl Print, eeprom: &[u8], output: &mut [u8]) -> io::Result<()> {
     match export(eeprom, output) {
-        Written::Bytes(len) => print_front(rt, output, len),
-        Written::Refused(number) => print_refusal(rt, number),
+        Ok(len) => print_front(rt, output, len),
+        Err(number) => print_refusal(rt, number),
     }
 }

@@ -1,29 +1,26 @@
 // Replaying a save: it is checked whole, and only then stored.
 ghost use Rattle.std.specs.Prelude.{◌≡◌, length};
 ghost use Rattle.processor.specs.Memory.{memory, store as store_all};
-ghost use Rattle.octets.specs.Outcome.{done};
+ghost use Rattle.octets.specs.Outcome.{outcome};
 ghost use Rattle.streams.specs.Stream.{stream_of};
 ghost use Rattle.streams.specs.Inside.{frames_write, frame_writes};
 ghost use Rattle.saves.specs.Replay.{replay_of};
 
-use octets::Done;
+use octets::Refusal;
 use streams::judge::check_for;
-use streams::means::{Meant, meaning_of};
+use streams::means::meaning_of;
 use streams::stream;
 
 // Stores what a save's frames write, in order.
-pub fn replay(eeprom: &mut [u8], settings: &mut [u32], save: &[u8]) -> Done
-    ensures { (done result, memory eeprom.new settings.new) ≡ replay_of (memory eeprom.old settings.old) save.now }
+pub fn replay(eeprom: &mut [u8], settings: &mut [u32], save: &[u8]) -> Result<(), Refusal>
+    ensures { (outcome result, memory eeprom.new settings.new) ≡ replay_of (memory eeprom.old settings.old) save.now }
 {
-    match check_for(eeprom.len(), settings.len(), save) {
-        Done::Done => {
-            store_frames(stream::fields_of(save), eeprom, settings);
-            Done::Done
-        }
-        Done::Refused(k) => Done::Refused(k),
-    }
+    check_for(eeprom.len(), settings.len(), save)?;
+    store_frames(stream::fields_of(save), eeprom, settings);
+    Ok(())
 }
 
+// A `while`, since how long a field is stands in its own bytes: no iterator of the library goes over them.
 fn store_frames(fields: &[u8], eeprom: &mut [u8], settings: &mut [u32])
     ensures { memory eeprom.new settings.new ≡ store_all (frames_write (length eeprom.old) (length settings.old) (stream_of fields.now).frames) (memory eeprom.old settings.old) }
 {
@@ -39,8 +36,7 @@ fn store_frame(frame: &[u8], eeprom: &mut [u8], settings: &mut [u32])
     ensures { memory eeprom.new settings.new ≡ store_all (frame_writes (length eeprom.old) (length settings.old) frame.now) (memory eeprom.old settings.old) }
 {
     let packet = stream::packet_in(frame);
-    match meaning_of(packet, eeprom.len(), settings.len()) {
-        Meant::Is(change) => processor::change::store(change, packet, eeprom, settings),
-        Meant::Refused(_) => {}
+    if let Ok(change) = meaning_of(packet, eeprom.len(), settings.len()) {
+        processor::change::store(change, packet, eeprom, settings);
     }
 }

@@ -1,14 +1,11 @@
 -- Each public function's contract fixes its answer and what it leaves.
-use Rattle.std.proofs.Common.{◌≡◌, ℕ, List}
-use Rattle.octets.specs.declared.Done.{Done}
+use Rattle.std.specs.Prelude.{Result}
+use Rattle.octets.specs.declared.refusal.Refusal.{Refusal}
+use Rattle.std.proofs.Common.{ℕ, List}
 use Rattle.octets.proofs.Agree.{Fixes, agree}
-use Rattle.octets.proofs.Determined.{done-once}
-use Rattle.streams.specs.Stream.{judged}
-use Rattle.streams.specs.Means.{meant}
-use Rattle.streams.specs.declared.shape.Judged.{Judged}
-use Rattle.streams.specs.declared.shape.Judged.TheVariants.{Sound, Refused}
-use Rattle.streams.specs.declared.means.Meant.{Meant}
-use Rattle.streams.specs.declared.means.Meant.TheVariants.{Is, Refused as NotMeant}
+use Rattle.octets.proofs.Determined.{outcome_once}
+use Rattle.processor.specs.declared.change.Change.{Change}
+use Rattle.streams.specs.declared.shape.Shape.{Shape}
 use Rattle.streams.proofs.stream.fields_of.Reads as fields-of
 use Rattle.streams.proofs.stream.tag_of.Reads as tag_of
 use Rattle.streams.proofs.stream.content_of.Reads as content-of
@@ -19,19 +16,6 @@ use Rattle.streams.proofs.shape.shape_of.Reads as shape_of
 use Rattle.streams.proofs.means.meaning_of.Reads as meaning-of
 use Rattle.streams.proofs.judge.judge.Reads as judge
 use Rattle.streams.proofs.judge.check_for.Reads as check-for
-
--- an answer is known by its reading
-pub judged-once : (a b : Judged) → judged a ≡ judged b → a ≡ b
-judged-once (Sound s) (Sound t) h = cc
-judged-once (Sound s) (Refused k) h = cc
-judged-once (Refused k) (Sound t) h = cc
-judged-once (Refused j) (Refused k) h = cc
-
-pub meant-once : (a b : Meant) → meant a ≡ meant b → a ≡ b
-meant-once (Is c) (Is d) h = cc
-meant-once (Is c) (NotMeant k) h = cc
-meant-once (NotMeant k) (Is d) h = cc
-meant-once (NotMeant j) (NotMeant k) h = cc
 
 pub fields-of-fixed : Fixes (List ℕ) fields-of.Post (λ κs answer left. answer.now)
 fields-of-fixed κs args a b x y p q = agree p q
@@ -45,20 +29,20 @@ content-of-fixed κs args a b x y p q = agree p q
 pub field-end-fixed : Fixes ℕ field_end.Post (λ κs answer left. answer)
 field-end-fixed κs args a b x y p q = agree p q
 
-pub end-of-fixed : Fixes Done end_of_lem.Post (λ κs answer left. answer)
-end-of-fixed κs args a b x y p q = done-once a b (agree p q)
+pub end-of-fixed : Fixes (Result Unit Refusal) end_of_lem.Post (λ κs answer left. answer)
+end-of-fixed κs args a b x y p q = outcome_once a b (agree p q)
 
 pub packet-in-fixed : Fixes (List ℕ) packet-in.Post (λ κs answer left. answer.now)
 packet-in-fixed κs args a b x y p q = agree p q
 
-pub shape-of-fixed : Fixes Judged shape_of.Post (λ κs answer left. answer)
-shape-of-fixed κs args a b x y p q = judged-once a b (agree p q)
+pub shape-of-fixed : Fixes (Result Shape Refusal) shape_of.Post (λ κs answer left. answer)
+shape-of-fixed κs args a b x y p q = outcome_once a b (agree p q)
 
-pub meaning-of-fixed : Fixes Meant meaning-of.Post (λ κs answer left. answer)
-meaning-of-fixed κs args a b x y p q = meant-once a b (agree p q)
+pub meaning-of-fixed : Fixes (Result Change Refusal) meaning-of.Post (λ κs answer left. answer)
+meaning-of-fixed κs args a b x y p q = outcome_once a b (agree p q)
 
-pub judge-fixed : Fixes Judged judge.Post (λ κs answer left. answer)
-judge-fixed κs args a b x y p q = judged-once a b (agree p q)
+pub judge-fixed : Fixes (Result Shape Refusal) judge.Post (λ κs answer left. answer)
+judge-fixed κs args a b x y p q = outcome_once a b (agree p q)
 
-pub check-for-fixed : Fixes Done check-for.Post (λ κs answer left. answer)
-check-for-fixed κs args a b x y p q = done-once a b (agree p q)
+pub check-for-fixed : Fixes (Result Unit Refusal) check-for.Post (λ κs answer left. answer)
+check-for-fixed κs args a b x y p q = outcome_once a b (agree p q)

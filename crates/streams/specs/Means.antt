@@ -13,8 +13,6 @@ use Rattle.commands.specs.Decode.{r}
 use Rattle.processor.specs.Memory.{Store, to_eeprom, to_settings}
 use Rattle.processor.specs.declared.change.Change.{Change}
 use Rattle.processor.specs.declared.change.Change.TheVariants.{EepromBytes, SettingsWord}
-use Rattle.streams.specs.declared.means.Meant.{Meant}
-use Rattle.streams.specs.declared.means.Meant.TheVariants.{Is, Refused}
 
 -- 7 where the end is beyond E
 abbrev pub memory_means : ℕ → List ℕ → Outcome Store
@@ -41,10 +39,6 @@ all_mean e s [] = accepted []
 all_mean e s (frame ∷ frames) = and_then (frame_means e s frame) (λ w. and_then (all_mean e s frames) (λ ws. accepted (w ∷ ws)))
 
 -- ---- as means.rt answers it
-
-abbrev pub meant : Meant → Outcome Change
-meant (Is change) = accepted change
-meant (Refused k) = refused k
 
 -- the change that a write of the packet p is: its bytes stand behind the first three
 abbrev pub in_packet : List ℕ → Store → Change

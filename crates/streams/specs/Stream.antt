@@ -7,8 +7,6 @@ use Rattle.octets.specs.Number.{at, big_at}
 use Rattle.octets.specs.Place.{place_at, part_of}
 use Rattle.packet.specs.Receipt.{length_byte}
 use Rattle.streams.specs.declared.shape.Shape.{Shape}
-use Rattle.streams.specs.declared.shape.Judged.{Judged}
-use Rattle.streams.specs.declared.shape.Judged.TheVariants.{Sound, Refused}
 
 -- "one-byte tag, two-byte length, content"
 abbrev pub length_of : List ℕ → ℕ
@@ -59,11 +57,6 @@ end_of n l =
 
 abbrev pub shape : ℕ → ℕ → Shape
 shape e s = record { eeprom = e; settings = s }
-
--- the sizes, or the paper's number
-abbrev pub judged : Judged → Outcome Shape
-judged (Sound s) = accepted s
-judged (Refused k) = refused k
 
 -- The sizes in the first field, which is eleven bytes: what else stands there is "a field short, a tag unknown or out of
 -- order, or an 01 .. of wrong length 13".

@@ -1,71 +1,59 @@
 // Judging a save, up to its first fault.
 ghost use Rattle.std.specs.Prelude.{◌≡◌, ◌+◌};
-ghost use Rattle.octets.specs.Outcome.{on_accepted, done};
+ghost use Rattle.octets.specs.Outcome.{outcome, on_accepted};
 ghost use Rattle.packet.specs.Receipt.{packet_at};
 ghost use Rattle.octets.specs.Place.{part_of};
-ghost use Rattle.streams.specs.Stream.{judged};
 ghost use Rattle.streams.specs.Means.{packet_means};
 ghost use Rattle.streams.specs.Inside.{no_fault, receipt_of};
 ghost use Rattle.streams.specs.Judge.{fields_mean, judged_of, judged_sized, checked_for};
 
-use crate::means::{Meant, meaning_of};
-use crate::shape::{Judged, Shape, shape_of};
+use crate::means::meaning_of;
+use crate::shape::{Shape, shape_of};
 use crate::stream::fields_of;
 use crate::{LONGEST_SAVE, stream};
-use octets::{Done, number, refusal};
+use octets::{Refusal, number};
 
 // Judges a save against its own sizes.
-pub fn judge(save: &[u8]) -> Judged
-    ensures { judged result ≡ on_accepted (λ s. s.shape) (judged_of save.now) }
+pub fn judge(save: &[u8]) -> Result<Shape, Refusal>
+    ensures { outcome result ≡ on_accepted (λ s. s.shape) (judged_of save.now) }
 {
     if LONGEST_SAVE < save.len() {
-        return Judged::Refused(refusal::TOO_LONG);
+        return Err(Refusal::TooLong);
     }
-    match shape_of(save) {
-        Judged::Sound(shape) => judge_sized(shape, save),
-        Judged::Refused(k) => Judged::Refused(k),
-    }
+    judge_sized(shape_of(save)?, save)
 }
 
-fn judge_sized(shape: Shape, save: &[u8]) -> Judged
-    ensures { judged result ≡ on_accepted (λ s. s.shape) (judged_sized save.now shape) }
+fn judge_sized(shape: Shape, save: &[u8]) -> Result<Shape, Refusal>
+    ensures { outcome result ≡ on_accepted (λ s. s.shape) (judged_sized save.now shape) }
 {
     if processor::too_large(shape.eeprom, shape.settings) {
-        return Judged::Refused(refusal::WRONG_SIZES);
+        return Err(Refusal::WrongSizes);
     }
-    match scan(fields_of(save), shape.eeprom, shape.settings) {
-        Done::Done => Judged::Sound(shape),
-        Done::Refused(k) => Judged::Refused(k),
-    }
+    scan(fields_of(save), shape.eeprom, shape.settings)?;
+    Ok(shape)
 }
 
 // Checks a save for memories of e bytes and s words.
-pub fn check_for(e: usize, s: usize, save: &[u8]) -> Done
-    ensures { done result ≡ on_accepted (λ a. tt) (checked_for e s save.now) }
+pub fn check_for(e: usize, s: usize, save: &[u8]) -> Result<(), Refusal>
+    ensures { outcome result ≡ on_accepted (λ a. tt) (checked_for e s save.now) }
 {
     if processor::too_large(e, s) {
-        return Done::Refused(refusal::WRONG_SIZES);
+        return Err(Refusal::WrongSizes);
     }
     if LONGEST_SAVE < save.len() {
-        return Done::Refused(refusal::TOO_LONG);
+        return Err(Refusal::TooLong);
     }
-    match shape_of(save) {
-        Judged::Sound(shape) => {
-            if shape.eeprom != e {
-                return Done::Refused(refusal::WRONG_SIZES);
-            }
-            if shape.settings != s {
-                return Done::Refused(refusal::WRONG_SIZES);
-            }
-            scan(fields_of(save), e, s)
-        }
-        Judged::Refused(k) => Done::Refused(k),
+    let shape = shape_of(save)?;
+    if shape.eeprom != e || shape.settings != s {
+        return Err(Refusal::WrongSizes);
     }
+    scan(fields_of(save), e, s)
 }
 
 // Goes over the fields and, within, over each frame's bytes, and is left at the first fault.
-fn scan(fields: &[u8], e: usize, s: usize) -> Done
-    ensures { done result ≡ no_fault (fields_mean e s fields.now) }
+// Both loops stand here, against the rule of one loop a function: document 01 asks that it be left from within both.
+fn scan(fields: &[u8], e: usize, s: usize) -> Result<(), Refusal>
+    ensures { outcome result ≡ no_fault (fields_mean e s fields.now) }
 {
     let mut rest = fields;
     let mut frames = 0;
@@ -74,25 +62,16 @@ fn scan(fields: &[u8], e: usize, s: usize) -> Done
             break 'fields stream::end_of(rest, frames);
         }
         let frame = stream::content_of(rest);
-        if let Done::Refused(k) = receipt(frame) {
-            break 'fields Done::Refused(k);
-        }
+        receipt(frame)?;
         let len = number::byte(frame, 0) as usize;
         let mut sum: u8 = 0;
-        let mut i = 0;
-        'bytes: loop {
-            if i == len {
-                if sum != number::byte(frame, i) {
-                    break 'fields Done::Refused(refusal::WRONG_CHECKSUM);
-                }
-                break 'bytes;
+        'bytes: for (i, byte) in frame.iter().enumerate() {
+            if i == len && sum != *byte {
+                break 'fields Err(Refusal::WrongChecksum);
             }
-            sum = std::num::wrapping_add_u8(sum, number::byte(frame, i));
-            i += 1;
+            sum = sum.wrapping_add(*byte);
         }
-        if let Done::Refused(k) = packet_fault(stream::packet_in(frame), e, s) {
-            break 'fields Done::Refused(k);
-        }
+        packet_fault(stream::packet_in(frame), e, s)?;
         frames += 1;
         let end = stream::field_end(rest);
         rest = &rest[end..];
@@ -100,27 +79,24 @@ fn scan(fields: &[u8], e: usize, s: usize) -> Done
 }
 
 // Exact receipt of a frame, but for its checksum.
-fn receipt(frame: &[u8]) -> Done
-    ensures { done result ≡ receipt_of frame.now }
+fn receipt(frame: &[u8]) -> Result<(), Refusal>
+    ensures { outcome result ≡ receipt_of frame.now }
 {
     let len = number::byte(frame, 0) as usize;
     if len == 0 {
-        return Done::Refused(refusal::EMPTY);
+        return Err(Refusal::Empty);
     }
     if frame.len() < len + 1 {
-        return Done::Refused(refusal::SHORT);
+        return Err(Refusal::Short);
     }
     if len + 1 < frame.len() {
-        return Done::Refused(refusal::TRAILING);
+        return Err(Refusal::Trailing);
     }
-    Done::Done
+    Ok(())
 }
 
-fn packet_fault(packet: &[u8], e: usize, s: usize) -> Done
-    ensures { done result ≡ no_fault (packet_means e s packet.now) }
+fn packet_fault(packet: &[u8], e: usize, s: usize) -> Result<(), Refusal>
+    ensures { outcome result ≡ no_fault (packet_means e s packet.now) }
 {
-    match meaning_of(packet, e, s) {
-        Meant::Is(_) => Done::Done,
-        Meant::Refused(k) => Done::Refused(k),
-    }
+    meaning_of(packet, e, s).map(|_| ())
 }

@@ -1,38 +1,30 @@
 // The sizes in the first field of a save.
 ghost use Rattle.std.specs.Prelude.{◌≡◌};
-ghost use Rattle.streams.specs.Stream.{judged, shape_of};
+ghost use Rattle.octets.specs.Outcome.{outcome};
+ghost use Rattle.streams.specs.Stream.{shape_of};
 
 use crate::stream;
-use octets::{number, refusal};
+use octets::{Refusal, number};
 
 // The sizes of the memories that a save is for.
-#[derive(Clone, Copy)]
+#[derive(Clone, Copy, Debug, PartialEq, Eq)]
 pub struct Shape {
     pub eeprom: usize,
     pub settings: usize,
 }
 
-// A save's sizes, or the number of its first fault.
-#[derive(Clone, Copy)]
-pub enum Judged {
-    Sound(Shape),
-    Refused(u8),
-}
-
+// The sizes that the first field of a save tells.
 #[tactic(auto, using(octets::proofs::Choosing::tests), unfolding(crate::specs::Stream::shape_of))]
-pub fn shape_of(save: &[u8]) -> Judged
-    ensures { judged result ≡ shape_of save.now }
+pub fn shape_of(save: &[u8]) -> Result<Shape, Refusal>
+    ensures { outcome result ≡ shape_of save.now }
 {
-    if save.len() < stream::FIRST {
-        return Judged::Refused(refusal::WRONG_FIELD);
+    if save.len() < stream::FIRST
+        || number::byte(save, 0) != stream::SHAPE
+        || number::big16(save, 1) != 8
+    {
+        return Err(Refusal::WrongField);
     }
-    if number::byte(save, 0) != stream::SHAPE {
-        return Judged::Refused(refusal::WRONG_FIELD);
-    }
-    if number::big16(save, 1) != 8 {
-        return Judged::Refused(refusal::WRONG_FIELD);
-    }
-    Judged::Sound(Shape {
+    Ok(Shape {
         eeprom: number::big32(save, 3) as usize,
         settings: number::big32(save, 7) as usize,
     })

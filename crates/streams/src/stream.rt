@@ -1,10 +1,10 @@
 // The fields of a save, read from the front: a tag, two length bytes, the content. What is not there
 // reads as 0 or as nothing, and a field that is short has no tag.
 ghost use Rattle.std.specs.Prelude.{◌≡◌, ◌+◌, drop};
-ghost use Rattle.octets.specs.Outcome.{done};
+ghost use Rattle.octets.specs.Outcome.{outcome};
 ghost use Rattle.streams.specs.Stream.{tag_of, length_of, content_of, end_of, packet_in};
 
-use octets::{Done, Place, number, refusal};
+use octets::{Place, Refusal, number};
 
 pub const SHAPE: u8 = 0x01;
 
@@ -25,18 +25,16 @@ pub fn fields_of(save: &[u8]) -> &[u8]
     octets::part(save, octets::rest_of(save, FIRST))
 }
 
-// The first field's tag.
+// The first field's tag, 0 where the field is short.
 #[tactic(auto, using(octets::proofs::Choosing::tests), unfolding(crate::specs::Stream::tag_of))]
 pub fn tag_of(rest: &[u8]) -> u8
     ensures { result ≡ tag_of rest.now }
 {
-    if rest.len() < HEAD {
-        return 0;
+    if rest.len() < field_end(rest) {
+        0
+    } else {
+        number::byte(rest, 0)
     }
-    if rest.len() < HEAD + number::big16(rest, 1) as usize {
-        return 0;
-    }
-    number::byte(rest, 0)
 }
 
 #[tactic(auto, using(octets::proofs::Choosing::tests), unfolding(crate::specs::Stream::content_of))]
@@ -56,22 +54,17 @@ pub fn field_end(rest: &[u8]) -> usize
 
 // Whether what stands behind so many frames is the end of a save.
 #[tactic(auto, using(octets::proofs::Choosing::tests), unfolding(crate::specs::Stream::end_of))]
-pub fn end_of(rest: &[u8], frames: usize) -> Done
-    ensures { done result ≡ end_of frames rest.now }
+pub fn end_of(rest: &[u8], frames: usize) -> Result<(), Refusal>
+    ensures { outcome result ≡ end_of frames rest.now }
 {
-    if rest.len() != HEAD + 4 {
-        return Done::Refused(refusal::WRONG_FIELD);
+    if rest.len() != HEAD + 4
+        || number::byte(rest, 0) != END
+        || number::big16(rest, 1) != 4
+        || number::big32(rest, HEAD) as usize != frames
+    {
+        return Err(Refusal::WrongField);
     }
-    if number::byte(rest, 0) != END {
-        return Done::Refused(refusal::WRONG_FIELD);
-    }
-    if number::big16(rest, 1) != 4 {
-        return Done::Refused(refusal::WRONG_FIELD);
-    }
-    if number::big32(rest, HEAD) as usize != frames {
-        return Done::Refused(refusal::WRONG_FIELD);
-    }
-    Done::Done
+    Ok(())
 }
 
 // The packet in a frame.
@@ -79,14 +72,11 @@ pub fn packet_in(frame: &[u8]) -> &[u8]
     ensures { result.now ≡ packet_in frame.now }
 {
     let len = number::byte(frame, 0) as usize;
-    if len == 0 {
-        return octets::part(frame, Place { start: 1, len: 0 });
-    }
     octets::part(
         frame,
         Place {
             start: 1,
-            len: len - 1,
+            len: len.saturating_sub(1),
         },
     )
 }

@@ -1,4 +1,6 @@
 -- Each public function's contract fixes its answer and what it leaves.
+use Rattle.std.specs.Prelude.{Result, Ok, Err}
+use Rattle.octets.specs.declared.refusal.Refusal.{Refusal}
 use mathlib.Core.Path.{◌≡◌, refl, sym, ap, ◌∙◌}
 use mathlib.Core.List.{List}
 use Prim.Native.Nat.{ℕ}
@@ -11,10 +13,9 @@ use contract.Lifetimes.{Lfts}
 use contract.Monad.{Fun, fact}
 use denote.Triple.Clauses.{AtExit}
 use denote.Triple.Entry.{Args, Res}
-use Rattle.octets.specs.Outcome.{written}
-use Rattle.octets.specs.declared.Written.{Written}
+use Rattle.octets.specs.Outcome.{outcome}
 use Rattle.octets.proofs.Agree.{Fixes, agree, three}
-use Rattle.octets.proofs.Determined.{written_once}
+use Rattle.octets.proofs.Determined.{outcome_once}
 use Rattle.processor.specs.Memory.{Memory, memory}
 use Rattle.device.specs.Execute.{received_into}
 use Rattle.tally.specs.Tally.{after}
@@ -26,8 +27,8 @@ use Rattle.tally.specs.contracts.receive.receive_lent as receive-lent
 use Rattle.tally.proofs.receive.receive_lending.Reads as receive-lending
 
 -- where the answer fixes the tally f, what is left with it
-with-tally : (f : Written → Tally) {a b : Written} {m n : Memory} {x y : List ℕ} {s t : Tally} → ◌≡◌ {A = Written × Memory × List ℕ} (a, m, x) (b, n, y) → s ≡ f a → t ≡ f b → ◌≡◌ {A = Written × Memory × List ℕ × Tally} (a, m, x, s) (b, n, y, t)
-with-tally f same p q = let told = ap (λ (left : Written × Memory × List ℕ). f left.0) same in λ i. ((same i).0, (same i).1, (same i).2, (p ∙ told ∙ sym q) i)
+with-tally : (f : Result ℕ Refusal → Tally) {a b : Result ℕ Refusal} {m n : Memory} {x y : List ℕ} {s t : Tally} → ◌≡◌ {A = Result ℕ Refusal × Memory × List ℕ} (a, m, x) (b, n, y) → s ≡ f a → t ≡ f b → ◌≡◌ {A = Result ℕ Refusal × Memory × List ℕ × Tally} (a, m, x, s) (b, n, y, t)
+with-tally f same p q = let told = ap (λ (left : Result ℕ Refusal × Memory × List ℕ). f left.0) same in λ i. ((same i).0, (same i).1, (same i).2, (p ∙ told ∙ sym q) i)
 
 pub zeroed-fixed : Fixes Tally zeroed.Post (λ κs answer left. answer)
 zeroed-fixed κs args a b x y p q = agree p q
@@ -35,22 +36,22 @@ zeroed-fixed κs args a b x y p q = agree p q
 pub count-fixed : Fixes Tally count.Post (λ κs answer left. answer)
 count-fixed κs args a b x y p q = agree p q
 
-pub receive-counted-fixed : Fixes (Written × Memory × List ℕ × Tally) receive-counted.Post (λ κs answer left. (answer.answer, memory left.1.1.1.0.now left.1.1.1.1.0.now, left.1.1.1.1.1.0.now, answer.tally))
-receive-counted-fixed κs args a b x y p q = with-tally (λ w. after args.0 (written w)) (three written written_once (agree p.0 q.0)) p.1 q.1
+pub receive-counted-fixed : Fixes (Result ℕ Refusal × Memory × List ℕ × Tally) receive-counted.Post (λ κs answer left. (answer.answer, memory left.1.1.1.0.now left.1.1.1.1.0.now, left.1.1.1.1.1.0.now, answer.tally))
+receive-counted-fixed κs args a b x y p q = with-tally (λ w. after args.0 (outcome w)) (three outcome outcome_once (agree p.0 q.0)) p.1 q.1
 
 -- What `receive_lent` promises, written once more; `..-says` says that it is that.
 abbrev pub ReceiveLent : (κs : Lfts 5) → Args receive-lent.signature κs → Res receive-lent.signature κs → AtExit receive-lent.ended κs → Type 0
 ReceiveLent κs args answer left =
-    ((written answer, memory left.1.1.1.0.now left.1.1.1.1.0.now, left.1.1.1.1.1.0.now) ≡ received_into args.1.0 args.1.1.0.now (memory args.1.1.1.0.now args.1.1.1.1.0.now) args.1.1.1.1.1.0.now)
-    × (left.0.now ≡ after args.0.now (written answer))
+    ((outcome answer, memory left.1.1.1.0.now left.1.1.1.1.0.now, left.1.1.1.1.1.0.now) ≡ received_into args.1.0 args.1.1.0.now (memory args.1.1.1.0.now args.1.1.1.1.0.now) args.1.1.1.1.1.0.now)
+    × (left.0.now ≡ after args.0.now (outcome answer))
 
 module _ {M : Type 1} {𝓤 : Ura M} (𝓛 : Logic 𝓤) (mem : Cells.Memory → SProp 𝓤) (run : Routine → Fun 𝓤) where
   pub receive-lent-says : (κs : Lfts 5) (args : Args receive-lent.signature κs) (answer : Res receive-lent.signature κs) (left : AtExit receive-lent.ended κs)
       → (receive-lent.clauses 𝓛 mem run κs args).ensures tt answer left ≡ fact 𝓤 (ReceiveLent κs args answer left)
   receive-lent-says κs args answer left = refl
 
-pub receive-lent-fixed : Fixes (Written × Memory × List ℕ × Tally) ReceiveLent (λ κs answer left. (answer, memory left.1.1.1.0.now left.1.1.1.1.0.now, left.1.1.1.1.1.0.now, left.0.now))
-receive-lent-fixed κs args a b x y p q = with-tally (λ w. after args.0.now (written w)) (three written written_once (agree p.0 q.0)) p.1 q.1
+pub receive-lent-fixed : Fixes (Result ℕ Refusal × Memory × List ℕ × Tally) ReceiveLent (λ κs answer left. (answer, memory left.1.1.1.0.now left.1.1.1.1.0.now, left.1.1.1.1.1.0.now, left.0.now))
+receive-lent-fixed κs args a b x y p q = with-tally (λ w. after args.0.now (outcome w)) (three outcome outcome_once (agree p.0 q.0)) p.1 q.1
 
-pub receive-lending-fixed : Fixes (Written × Memory × List ℕ × Tally) receive-lending.Post (λ κs answer left. (answer.answer, memory left.1.1.1.0.now left.1.1.1.1.0.now, left.1.1.1.1.1.0.now, answer.tally))
-receive-lending-fixed κs args a b x y p q = with-tally (λ w. after args.0 (written w)) (three written written_once (agree p.0 q.0)) p.1 q.1
+pub receive-lending-fixed : Fixes (Result ℕ Refusal × Memory × List ℕ × Tally) receive-lending.Post (λ κs answer left. (answer.answer, memory left.1.1.1.0.now left.1.1.1.1.0.now, left.1.1.1.1.1.0.now, answer.tally))
+receive-lending-fixed κs args a b x y p q = with-tally (λ w. after args.0 (outcome w)) (three outcome outcome_once (agree p.0 q.0)) p.1 q.1

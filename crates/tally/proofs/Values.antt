@@ -1,4 +1,4 @@
--- A tally and an answer as they lie in memory, for the walks of receive.rt. No line names a field or a variant.
+-- A tally as it lies in memory, for the walks of receive.rt. No line names a field or a variant.
 use mathlib.Core.List.{[], ◌∷◌, List}
 use seplogic.Ra.Ura.{Ura}
 use lib.Dec.{T as Holds}
@@ -6,10 +6,6 @@ use mir.Val.{Val, WT, has_ty}
 use types.Logic.{Logic}
 use denote.Laws.{Is}
 use denote.Struct.Laws as LL
-use denote.Enum.Laws as EL
-use Rattle.octets.specs.declared.Written.{Written}
-use Rattle.octets.specs.contracts.Written as S
-use Rattle.octets.proofs.Written.TheLaws as S'
 use Rattle.tally.specs.declared.Tally.{Tally}
 use Rattle.tally.specs.contracts.Tally as T
 use Rattle.tally.proofs.Tally.TheLaws as T'
@@ -20,6 +16,3 @@ vals = LL.vals T.the_type T'.the_laws
 module _ {M : Type 1} {𝓤 : Ura M} (𝓛 : Logic 𝓤) where
   pub tally-typed : (t : Tally) (v : Val) → Is T.the_row t (v ∷ []) → Holds (has_ty T'.mir v) × WT v
   tally-typed t v is = ((LL.lawful T.the_type T'.the_laws 𝓛).typed t (v ∷ []) is).0
-
-  pub answer_typed : (r : Written) (v : Val) → Is S.the_row r (v ∷ []) → Holds (has_ty S'.mir v) × WT v
-  answer_typed r v is = ((EL.lawful S.the_type S'.the_laws 𝓛 tt).typed r (v ∷ []) is).0

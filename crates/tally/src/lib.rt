@@ -1,11 +1,11 @@
 // How many received frames were accepted and refused. (added)
 #![tactic(auto)]
 
-ghost use Rattle.std.specs.Prelude.{◌≡◌, ◌+◌, min};
-ghost use Rattle.octets.specs.Outcome.{written};
+ghost use Rattle.std.specs.Prelude.{◌≡◌};
+ghost use Rattle.octets.specs.Outcome.{outcome};
 ghost use Rattle.tally.specs.Tally.{zeroed, after};
 
-use octets::Written;
+use octets::Refusal;
 
 pub mod receive;
 
@@ -27,29 +27,18 @@ impl Tally {
     }
 
     // The tally after one more answer.
-    pub fn count(self, answer: Written) -> Self
-        ensures { result ≡ after self (written answer) }
+    pub fn count(self, answer: Result<usize, Refusal>) -> Self
+        ensures { result ≡ after self (outcome answer) }
     {
-        let accepted = self.accepted;
-        let refused = self.refused;
         match answer {
-            Written::Bytes(_) => Tally {
-                accepted: one_more(accepted),
-                refused,
+            Ok(_) => Tally {
+                accepted: self.accepted.saturating_add(1),
+                ..self
             },
-            Written::Refused(_) => Tally {
-                accepted,
-                refused: one_more(refused),
+            Err(_) => Tally {
+                refused: self.refused.saturating_add(1),
+                ..self
             },
         }
     }
-}
-
-fn one_more(n: u32) -> u32
-    ensures { result ≡ min 0xFFFFFFFF (n + 1) }
-{
-    if n == 0xffff_ffff {
-        return n;
-    }
-    n + 1
 }

@@ -5,7 +5,7 @@ use mathlib.Core.List.{List, [], ◌∷◌, ◌++◌, append_assoc, append-nil}
 use native.Mathlib.Nat.{div-one}
 use native.Mathlib.Numerals.{add-one}
 use native.Mathlib.Omega.{arith}
-use lib.ListN.{length, take, drop, set, get_or, length-append, length-take}
+use lib.ListN.{length, take, drop, set, get_or, length-append}
 use lib.Seq.{set_split, drop_at, take-suc, length-take-le}
 use Rattle.octets.specs.Choice.{if_eq}
 use Rattle.octets.specs.Over.{over}
@@ -42,6 +42,13 @@ front-step n h =
 pub decimal_step : (n : ℕ) → decimal n ≡ front (n / 10) ++ ((48 + n % 10) ∷ [])
 unfolding decimal front
 decimal_step n = ap (λ (l : List ℕ). l ++ ((48 + n % 10) ∷ [])) (enough n (n / 10) (n / 10) (omega arith) (omega arith))
+
+-- where it has more than one digit
+pub decimal-snoc : (n : ℕ) → 0 < n / 10 → decimal n ≡ decimal (n / 10) ++ ((48 + n % 10) ∷ [])
+decimal-snoc n h = decimal_step n ∙ ap (λ (l : List ℕ). l ++ ((48 + n % 10) ∷ [])) (front-step (n / 10) h ∙ sym (decimal_step (n / 10)))
+
+pub decimal-one : (n : ℕ) → n / 10 ≡ 0 → decimal n ≡ (48 + n % 10) ∷ []
+decimal-one n h = decimal_step n ∙ rw (h, front-none)
 
 pub front_length : (n : ℕ) → 0 < n → length (front n) ≡ length (front (n / 10)) + 1
 front_length n h = rw (front-step n h, length-append)
@@ -100,3 +107,17 @@ pairs-turn s l o i x y e h g p q =
     let n : 2 * i ≡ length w = rw length_pairs (omega (arith, length-take-le i s (omega arith))) in
     let one = over-snoc w l e (2 * i) x n (omega arith) in
     rw (add-one i, take-suc s i 0 h, pairs-snoc, ← two (get_or s i 0) p q, ← append_assoc w (x ∷ []) (y ∷ [])) (over-snoc (w ++ (x ∷ [])) l one (2 * i + 1) y (simp length-append (omega arith)) (omega arith))
+
+-- the four bytes of a word, and its eight digits
+pub word-pairs : (w : ℕ) → pairs_of ((w / 16777216 % 256) ∷ (w / 65536 % 256) ∷ (w / 256 % 256) ∷ (w % 256) ∷ []) ≡ hex_digits 8 w
+unfolding pairs_of hex_digits
+word-pairs w =
+    let a : w / 16777216 % 256 / 16 % 16 ≡ w / 268435456 % 16 = omega arith in
+    let b : w / 16777216 % 256 % 16 ≡ w / 16777216 % 16 = omega arith in
+    let c : w / 65536 % 256 / 16 % 16 ≡ w / 1048576 % 16 = omega arith in
+    let d : w / 65536 % 256 % 16 ≡ w / 65536 % 16 = omega arith in
+    let e : w / 256 % 256 / 16 % 16 ≡ w / 4096 % 16 = omega arith in
+    let f : w / 256 % 256 % 16 ≡ w / 256 % 16 = omega arith in
+    let g : w % 256 / 16 % 16 ≡ w / 16 % 16 = omega arith in
+    let h : w % 256 % 16 ≡ w % 16 = omega arith in
+    simp (div-one, a, b, c, d, e, f, g, h)

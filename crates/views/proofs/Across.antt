@@ -1,9 +1,10 @@
 -- A joined view reads as the two that it was made of: below the second's base as the first, from there on as the second.
 -- A memory view ends before 65,535, and a float view has all floats of both.
-use Prim.Native.Nat.{ℕ, zero, suc, ◌+◌, ◌-◌, ◌*◌, ◌<◌, min}
+use Prim.Native.Nat.{ℕ, zero, suc, ◌+◌, ◌-◌, ◌*◌, min}
 use mathlib.Core.Path.{◌≡◌, refl, sym, ap, ◌∙◌}
 use mathlib.Core.List.{List}
-use mathlib.Core.Option.{Option, none, some, map}
+use Rattle.std.specs.Prelude.{Option, Some, None}
+use Rattle.std.specs.Option.{option_map}
 use native.Mathlib.Nat.{add-zero, add_assoc, mul-one}
 use native.Mathlib.Omega.{arith}
 use lib.Dec.{lit<}
@@ -37,9 +38,9 @@ little-bytes (suc k) l m p q e =
     rw (a, b)
 
 -- the byte at a part's place is an element of one byte
-map-twice : (bytes : List ℕ) (s : ℕ) (x : Option Place) → map (λ (p : Place). at bytes p.start) (map (λ (p : Place). place_at (s + p.start) p.len) x) ≡ map (λ (p : Place). at bytes (s + p.start * 1)) x
-map-twice bytes s none = refl
-map-twice bytes s (some p) = rw mul-one
+map-twice : (bytes : List ℕ) (s : ℕ) (x : Option Place) → option_map (λ (p : Place). at bytes p.start) (option_map (λ (p : Place). place_at (s + p.start) p.len) x) ≡ option_map (λ (p : Place). at bytes (s + p.start * 1)) x
+map-twice bytes s None = refl
+map-twice bytes s (Some p) = rw mul-one
 
 module _ (v w j : MemoryView) (bytes others out left : List ℕ) (accepts : memory_join v bytes w others out ≡ (accepted j, left)) where
   abbrev whole : List ℕ
@@ -55,7 +56,7 @@ module _ (v w j : MemoryView) (bytes others out left : List ℕ) (accepts : memo
   pub memory-end : j.base + j.data.len ≡ min 65535 (w.base + w.data.len)
   memory-end = rw (← was.view) (omega (arith, size, was.low, was.meet))
 
-  pub memory-reads : (addr : ℕ) → byte_at j left addr ≡ if_lt addr (j.base + j.data.len) (if_lt addr w.base (byte_at v bytes addr) (byte_at w others addr)) none
+  pub memory-reads : (addr : ℕ) → byte_at j left addr ≡ if_lt addr (j.base + j.data.len) (if_lt addr w.base (byte_at v bytes addr) (byte_at w others addr)) None
   unfolding byte_at part_at
   memory-reads addr =
       rw (← was.view, map-twice left 0, map-twice bytes v.data.start, map-twice others w.data.start)

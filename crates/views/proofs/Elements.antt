@@ -4,7 +4,8 @@ use Prim.Native.Nat.{ℕ, suc, ◌+◌, ◌-◌, ◌*◌, ◌≤◌, ◌<◌}
 use mathlib.Core.Path.{◌≡◌, refl, sym, ap, ◌∙◌}
 use mathlib.Core.Logic.{◌⊎◌, inl, inr}
 use mathlib.Core.List.{List}
-use mathlib.Core.Option.{Option, none, some, map}
+use Rattle.std.specs.Prelude.{Option, Some, None}
+use Rattle.std.specs.Option.{option_map}
 use native.Mathlib.Nat.{add_assoc, add-mul, suc-mul, mul-le-mul_right}
 use native.Mathlib.Omega.{arith}
 use lib.ListN.{length, get_or-append}
@@ -21,7 +22,7 @@ use Rattle.views.proofs.Joined.{both_bytes}
 
 -- the element at an address, by a reader of so many bytes
 abbrev pub element : ℕ → (List ℕ → ℕ → ℕ) → View → List ℕ → ℕ → Option ℕ
-element size read v bytes addr = map (λ (p : Place). read bytes (v.place.start + p.start * size)) (part_in v bytes addr 1)
+element size read v bytes addr = option_map (λ (p : Place). read bytes (v.place.start + p.start * size)) (part_in v bytes addr 1)
 
 -- a reader of so many bytes reads the same where they are
 abbrev pub Reads : ℕ → (List ℕ → ℕ → ℕ) → Type 0
@@ -32,14 +33,14 @@ in-element : (size k n i : ℕ) → k < n → i < size → k * size + i < n * si
 in-element size k n i h g = let e : suc k * size ≤ n * size = mul-le-mul_right size (omega arith) in omega (arith, suc-mul k size)
 
 module _ (size : ℕ) (read : List ℕ → ℕ → ℕ) (v : View) (bytes : List ℕ) (held : v.place.start + v.place.len ≤ length bytes) (addr : ℕ) where
-  is-element : v.base ≤ addr → addr < v.base + v.len → some (read bytes (v.place.start + (addr - v.base) * size)) ≡ element size read v bytes addr
-  is-element h g = ap (map _) (above _ _ _ _ _ held (above _ _ _ _ _ h (above _ _ _ _ _ (omega arith) refl)))
+  is-element : v.base ≤ addr → addr < v.base + v.len → Some (read bytes (v.place.start + (addr - v.base) * size)) ≡ element size read v bytes addr
+  is-element h g = ap (option_map _) (above _ _ _ _ _ held (above _ _ _ _ _ h (above _ _ _ _ _ (omega arith) refl)))
 
-  below_all : addr < v.base → none ≡ element size read v bytes addr
-  below_all h = ap (map _) (above _ _ _ _ _ held (below _ _ _ _ _ h refl))
+  below_all : addr < v.base → None ≡ element size read v bytes addr
+  below_all h = ap (option_map _) (above _ _ _ _ _ held (below _ _ _ _ _ h refl))
 
-  behind-all : v.base + v.len ≤ addr → none ≡ element size read v bytes addr
-  behind-all h = ap (map _) (above _ _ _ _ _ held (above _ _ _ _ _ (omega arith) (below _ _ _ _ _ (omega arith) refl)))
+  behind-all : v.base + v.len ≤ addr → None ≡ element size read v bytes addr
+  behind-all h = ap (option_map _) (above _ _ _ _ _ held (above _ _ _ _ _ (omega arith) (below _ _ _ _ _ (omega arith) refl)))
 
 module _ (size : ℕ) (v w j : View) (bytes others left : List ℕ)
     (first : v.place.start + v.place.len ≤ length bytes) (second : w.place.start + w.place.len ≤ length others) (third : j.place.start + j.place.len ≤ length left)
@@ -57,7 +58,7 @@ module _ (size : ℕ) (v w j : View) (bytes others left : List ℕ)
 
   module _ (read : List ℕ → ℕ → ℕ) (same : Reads size read) (addr : ℕ) where
     abbrev pub Joins : Type 0
-    Joins = element size read j left addr ≡ if_lt addr (j.base + j.len) (if_lt addr w.base (element size read v bytes addr) (element size read w others addr)) none
+    Joins = element size read j left addr ≡ if_lt addr (j.base + j.len) (if_lt addr w.base (element size read v bytes addr) (element size read w others addr)) None
 
     of-first : v.base ≤ addr → addr < w.base → read left (j.place.start + (addr - j.base) * size) ≡ read bytes (v.place.start + (addr - v.base) * size)
     of-first h g =
@@ -85,13 +86,13 @@ module _ (size : ℕ) (v w j : View) (bytes others left : List ℕ)
         front h g (inl f) = sym (below_all size read j left third addr (omega arith)) ∙ below _ _ _ _ _ h (below _ _ _ _ _ g (below_all size read v bytes first addr f))
         front h g (inr f) =
             sym (is-element size read j left third addr (omega arith) h)
-            ∙ below _ _ _ _ _ h (below _ _ _ _ _ g (ap some (of-first f g) ∙ is-element size read v bytes first addr f (omega arith)))
+            ∙ below _ _ _ _ _ h (below _ _ _ _ _ g (ap Some (of-first f g) ∙ is-element size read v bytes first addr f (omega arith)))
 
         side : addr < j.base + j.len → (addr < w.base) ⊎ (w.base ≤ addr) → Joins
         side h (inl g) = front h g (lt-or-le addr v.base)
         side h (inr g) =
             sym (is-element size read j left third addr (omega arith) h)
-            ∙ below _ _ _ _ _ h (above _ _ _ _ _ g (ap some (of-second g h) ∙ is-element size read w others second addr g (omega arith)))
+            ∙ below _ _ _ _ _ h (above _ _ _ _ _ g (ap Some (of-second g h) ∙ is-element size read w others second addr g (omega arith)))
 
         kept : (addr < j.base + j.len) ⊎ (j.base + j.len ≤ addr) → Joins
         kept (inl h) = side h (lt-or-le addr w.base)

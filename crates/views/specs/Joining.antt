@@ -1,7 +1,7 @@
 -- Joining two views. "Joining checks 7 (a view's place outside its bytes), 15, 11, 6".
 use Rattle.std.specs.Prelude.{ℕ, ◌+◌, ◌-◌, ◌/◌, List, ◌++◌, take}
 use Rattle.octets.specs.Refusals.{outside, past_end, apart}
-use Rattle.octets.specs.Outcome.{Outcome, accepted, refused, on_accepted}
+use Rattle.octets.specs.Outcome.{Outcome, refused, on_accepted}
 use Rattle.octets.specs.Choice.{if_lt, if_eq}
 use Rattle.octets.specs.Over.{into}
 use Rattle.octets.specs.Place.{place_at, part_of}

@@ -1,7 +1,7 @@
 -- Reading out of a view. "A view read that falls outside answers "none", as the Rust does; FloatView's `get` panics
 -- there, so 7."
-use Rattle.std.specs.Prelude.{ℕ, ◌+◌, ◌-◌, ◌*◌, List}
-use Rattle.std.proofs.Math.Option.{Option, none, some, map}
+use Rattle.std.specs.Prelude.{ℕ, ◌+◌, ◌-◌, ◌*◌, List, Option, Some, None}
+use Rattle.std.specs.Option.{option_map}
 use Rattle.octets.specs.Refusals.{outside}
 use Rattle.octets.specs.Outcome.{Outcome, accepted, refused}
 use Rattle.octets.specs.Choice.{if_lt}
@@ -11,56 +11,30 @@ use Rattle.octets.specs.declared.Place.{Place}
 use Rattle.views.specs.View.{View, view_of_memory, view_of_floats, if_outside}
 use Rattle.views.specs.declared.memory.MemoryView.{MemoryView}
 use Rattle.views.specs.declared.floats.FloatView.{FloatView}
-use Rattle.views.specs.declared.ReadPart.{ReadPart}
-use Rattle.views.specs.declared.ReadPart.TheVariants.{At, Outside as PartOutside}
-use Rattle.views.specs.declared.memory.ReadByte.{ReadByte}
-use Rattle.views.specs.declared.memory.ReadByte.TheVariants.{Is as ByteIs, Outside as ByteOutside}
-use Rattle.views.specs.declared.memory.ReadWord.{ReadWord}
-use Rattle.views.specs.declared.memory.ReadWord.TheVariants.{Is as WordIs, Outside as WordOutside}
-use Rattle.views.specs.declared.floats.ReadBits.{ReadBits}
-use Rattle.views.specs.declared.floats.ReadBits.TheVariants.{Is, Refused}
-
--- an answer that may be "none"
-abbrev pub read_part : ReadPart → Option Place
-read_part (At place) = some place
-read_part PartOutside = none
-
-abbrev pub read_byte : ReadByte → Option ℕ
-read_byte (ByteIs b) = some b
-read_byte ByteOutside = none
-
-abbrev pub read_word : ReadWord → Option ℕ
-read_word (WordIs n) = some n
-read_word WordOutside = none
-
--- a float's pattern, or the paper's number
-abbrev pub read_bits : ReadBits → Outcome ℕ
-read_bits (Is n) = accepted n
-read_bits (Refused k) = refused k
 
 -- "Memory view part: none if addr < base, or addr + len > base + view length; else that part", as a place in the view
 abbrev pub view_part : ℕ → ℕ → ℕ → ℕ → Option Place
-view_part base length addr len = if_lt addr base none (if_lt (base + length) (addr + len) none (some (place_at (addr - base) len)))
+view_part base length addr len = if_lt addr base None (if_lt (base + length) (addr + len) None (Some (place_at (addr - base) len)))
 
 -- a view whose place is outside its bytes has no part
 abbrev pub part_in : View → List ℕ → ℕ → ℕ → Option Place
-part_in v bytes addr len = if_outside v bytes none (view_part v.base v.len addr len)
+part_in v bytes addr len = if_outside v bytes None (view_part v.base v.len addr len)
 
 -- "that part of the caller's bytes"
 unfoldable pub part_at : MemoryView → List ℕ → ℕ → ℕ → Option Place
-part_at v bytes addr len = map (λ (p : Place). place_at (v.data.start + p.start) p.len) (part_in (view_of_memory v) bytes addr len)
+part_at v bytes addr len = option_map (λ (p : Place). place_at (v.data.start + p.start) p.len) (part_in (view_of_memory v) bytes addr len)
 
 unfoldable pub byte_at : MemoryView → List ℕ → ℕ → Option ℕ
-byte_at v bytes addr = map (λ (p : Place). at bytes p.start) (part_at v bytes addr 1)
+byte_at v bytes addr = option_map (λ (p : Place). at bytes p.start) (part_at v bytes addr 1)
 
 unfoldable pub word_at : MemoryView → List ℕ → ℕ → Option ℕ
-word_at v bytes addr = map (λ (p : Place). big_at 2 bytes p.start) (part_at v bytes addr 2)
+word_at v bytes addr = option_map (λ (p : Place). big_at 2 bytes p.start) (part_at v bytes addr 2)
 
 abbrev pub or_outside : Option ℕ → Outcome ℕ
-or_outside (some n) = accepted n
-or_outside none = refused outside
+or_outside (Some n) = accepted n
+or_outside None = refused outside
 
 -- the pattern of the float at an address: its four bytes, the least significant first
 unfoldable pub bits_at : FloatView → List ℕ → ℕ → Outcome ℕ
 bits_at v bytes addr =
-    or_outside (map (λ (p : Place). little_at 4 bytes (v.start + p.start * 4)) (part_in (view_of_floats v) bytes addr 1))
+    or_outside (option_map (λ (p : Place). little_at 4 bytes (v.start + p.start * 4)) (part_in (view_of_floats v) bytes addr 1))

@@ -1,6 +1,6 @@
 -- Views, as document 01 has them under "Commands and responses (commands.rs)".
 use Rattle.std.specs.Prelude.{ℕ, ◌+◌, ◌-◌, ◌/◌, List, length}
-use Rattle.octets.specs.Outcome.{Outcome, accepted, refused}
+use Rattle.octets.specs.Outcome.{Outcome}
 use Rattle.octets.specs.Choice.{if_lt}
 use Rattle.octets.specs.Number.{big_at}
 use Rattle.octets.specs.Place.{place_at, floats_at}
@@ -8,10 +8,6 @@ use Rattle.octets.specs.Reading.{needing, rest}
 use Rattle.octets.specs.declared.Place.{Place}
 use Rattle.views.specs.declared.memory.MemoryView.{MemoryView}
 use Rattle.views.specs.declared.floats.FloatView.{FloatView}
-use Rattle.views.specs.declared.memory.MemoryAnswer.{MemoryAnswer}
-use Rattle.views.specs.declared.memory.MemoryAnswer.TheVariants.{Is as MemoryIs, Refused as MemoryRefused}
-use Rattle.views.specs.declared.floats.FloatsAnswer.{FloatsAnswer}
-use Rattle.views.specs.declared.floats.FloatsAnswer.TheVariants.{Is as FloatsIs, Refused as FloatsRefused}
 
 -- what the paper says of either kind: "base", "view length", and "a view's place" in "its bytes"
 pub record View : Type 0 where
@@ -44,12 +40,3 @@ memory_in p = needing 3 p (record { base = big_at 2 p 1; «data» = rest 3 p })
 
 abbrev pub floats_in : List ℕ → Outcome FloatView
 floats_in p = needing 3 p (record { base = big_at 2 p 1; start = 3; count = (length p - 3) / 4 })
-
--- a view as an answer, or the paper's number
-abbrev pub memory_answer : MemoryAnswer → Outcome MemoryView
-memory_answer (MemoryIs v) = accepted v
-memory_answer (MemoryRefused k) = refused k
-
-abbrev pub floats_answer : FloatsAnswer → Outcome FloatView
-floats_answer (FloatsIs v) = accepted v
-floats_answer (FloatsRefused k) = refused k

@@ -3,11 +3,11 @@
 #![tactic(auto)]
 
 ghost use Rattle.std.specs.Prelude.{◌≡◌, ◌++◌};
-ghost use Rattle.octets.specs.Outcome.{written};
-ghost use Rattle.views.specs.Reading.{read_part, view_part};
+ghost use Rattle.octets.specs.Outcome.{outcome};
+ghost use Rattle.views.specs.Reading.{view_part};
 ghost use Rattle.views.specs.Joining.{adjoined};
 
-use octets::{Place, Written, refusal};
+use octets::{Place, Refusal};
 
 pub mod floats;
 pub mod memory;
@@ -15,45 +15,46 @@ pub mod memory;
 // The most that the base and the length of a view come to, a first view's and a joined memory view's.
 const VIEWS_END: usize = 65535;
 
-// The place of a part, or none.
-#[derive(Clone, Copy)]
-pub enum ReadPart {
-    At(Place),
-    Outside,
-}
-
 // The part of a view that is len bytes or floats from addr on, as a place among its count of them.
-fn view_part(base: u16, count: usize, addr: u16, len: u8) -> ReadPart
-    ensures { read_part result ≡ view_part base count addr len }
+#[tactic(auto, using(octets::proofs::Choosing::tests))]
+fn view_part(base: u16, count: usize, addr: u16, len: u8) -> Option<Place>
+    ensures { result ≡ view_part base count addr len }
 {
     if addr < base {
-        return ReadPart::Outside;
+        return None;
     }
     let start = (addr - base) as usize;
     let len = len as usize;
     if count < start + len {
-        return ReadPart::Outside;
+        return None;
     }
-    ReadPart::At(Place { start, len })
+    Some(Place { start, len })
 }
 
 // Joins a view of base and len with one whose base is next: the first view's bytes, and behind them
 // the second's, over the start of out.
-fn join(base: u16, len: usize, next: u16, first: &[u8], second: &[u8], out: &mut [u8]) -> Written
-    ensures { (written result, out.new) ≡ adjoined base len next (first.now ++ second.now) out.old }
+fn join(
+    base: u16,
+    len: usize,
+    next: u16,
+    first: &[u8],
+    second: &[u8],
+    out: &mut [u8],
+) -> Result<usize, Refusal>
+    ensures { (outcome result, out.new) ≡ adjoined base len next (first.now ++ second.now) out.old }
 {
     let base = base as usize;
     if VIEWS_END - base < len {
-        return Written::Refused(refusal::PAST_END);
+        return Err(Refusal::PastEnd);
     }
     if next as usize != base + len {
-        return Written::Refused(refusal::APART);
+        return Err(Refusal::Apart);
     }
     let n = first.len();
     if out.len() < n + second.len() {
-        return Written::Refused(refusal::NO_ROOM);
+        return Err(Refusal::NoRoom);
     }
-    octets::put(first, out);
-    octets::put(second, &mut out[n..]);
-    Written::Bytes(n + second.len())
+    let _ = octets::put(first, out);
+    let _ = octets::put(second, &mut out[n..]);
+    Ok(n + second.len())
 }

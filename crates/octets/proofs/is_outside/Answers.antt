@@ -1,13 +1,12 @@
 -- The code takes the start away where the definition adds it, so that nothing can overflow.
-use native.Mathlib.Omega.{arith}
-use Rattle.octets.proofs.Parts.{is-inside, is-outside}
+use Rattle.std.proofs.Common.{rules}
+use Rattle.octets.specs.Place.{is_outside}
 use Rattle.octets.proofs.is_outside.Goals as goal
 
 pub returns-then-have-place : goal.returns-then-have-place
-returns-then-have-place c = is-outside _ _ (omega arith)
+unfolding is_outside
+returns-then-have-place c = search rules
 
-pub returns-then-have-place-2 : goal.returns-then-have-place-2
-returns-then-have-place-2 c = is-outside _ _ (omega arith)
-
-pub returns : goal.returns
-returns c = is-inside _ _ (omega arith)
+pub returns-else-have-place : goal.returns-else-have-place
+unfolding is_outside
+returns-else-have-place c = search rules

@@ -10,9 +10,8 @@ returns c =
     let l = c.args.out.now in
     let n = c.args.n in
     let p = take n (drop 1 l) in
-    let s = c.wrapping_add_u8-whole.result in
+    let s = (n + 1 + c.args.sum) % 256 in
     let long : n ≡ length p = simp (length-take, length-drop) (omega arith) in
-    let sum : s ≡ (n + 1 + c.args.sum) % 256 = omega arith in
     let body = headed-over l n (omega arith) (put-over ((n + 1) ∷ []) l c.put.ensures (omega arith)) in
     let whole = put_rest ((n + 1) ∷ p) l body (s ∷ []) (n + 1) c.put-2.ensures (omega arith) (omega arith) in
-    rw (whole, sum) (above _ _ _ _ _ (omega arith) (above _ _ _ _ _ (omega arith) refl))
+    rw whole (above _ _ _ _ _ (omega arith) (above _ _ _ _ _ (omega arith) refl))

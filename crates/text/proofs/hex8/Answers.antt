@@ -1,8 +1,13 @@
--- Eight digits.
-use native.Mathlib.Nat.{div-one}
-use Rattle.text.specs.Digits.{hex_digits}
+-- The pairs of its four bytes are its eight digits.
+use Rattle.std.proofs.Common.{replicate, ◌∙◌, arith}
+use Rattle.octets.proofs.Overlay.{put-over, over-whole}
+use Rattle.text.specs.Digits.{pairs_of}
+use Rattle.text.proofs.Digits.{word-pairs, length_pairs}
 use Rattle.text.proofs.hex8.Goals as goal
 
 pub returns : goal.returns
-unfolding hex_digits
-returns c = rw (c.hex_digit-8.ensures, c.hex_digit-7.ensures, c.hex_digit-6.ensures, c.hex_digit-5.ensures, c.hex_digit-4.ensures, c.hex_digit-3.ensures, c.hex_digit-2.ensures, c.hex_digit.ensures, div-one)
+returns c =
+    let w = pairs_of c.to_be_bytes.result in
+    put-over w (replicate 8 0) c.put_pairs.ensures (rw (c.to_be_bytes.ensures, length_pairs) (omega arith))
+    ∙ over-whole w (replicate 8 0) (rw (c.to_be_bytes.ensures, length_pairs))
+    ∙ rw c.to_be_bytes.ensures (word-pairs c.args.word)

@@ -1,5 +1,4 @@
 -- A turn is two stores past what is written: after i turns the digits of the first i bytes stand over the output.
-use Prim.Native.Nat.{◌-◌}
 use mathlib.Core.Path.{refl}
 use native.Mathlib.Omega.{arith}
 use lib.ListN.{length-set}
@@ -15,24 +14,17 @@ returns-then-out-bytes c = rw length_pairs (below _ _ _ _ _ (omega arith) refl)
 
 pub loop-i-init : goal.loop-i-init
 unfolding over pairs_of
-loop-i-init c = (omega arith, refl, refl)
-
-pub overflow_cast-byte : goal.overflow_cast-byte
-overflow_cast-byte c = omega (arith, c.shared_slice_known-in-loop-i-1.given c.loop-i.i)
-
-pub bounds-out-i-in-loop-i : goal.bounds-out-i-in-loop-i
-bounds-out-i-in-loop-i c = simp length-set (omega arith)
+loop-i-init c = (refl, refl)
 
 pub loop-i-preserved : goal.loop-i-preserved
 loop-i-preserved c =
     let a = c.args in (
-      omega arith,
       simp length-set (omega arith),
-      pairs-turn a.bytes.now a.out.now c.loop-i.out c.loop-i.i _ _ c.loop-i.invariant.2 (omega arith) (omega arith) c.hex_digit.ensures c.hex_digit-in-loop-i.ensures,
+      pairs-turn a.bytes.now a.out.now c.loop-i.out c.loop-i.i _ _ c.loop-i.invariant.1 (omega arith) (omega arith) c.hex_digit.ensures c.hex_digit-in-loop-i.ensures,
     )
 
 pub returns : goal.returns
 returns c =
     let a = c.args in
     let n = length_pairs a.bytes.now in
-    rw (c.loop-i.invariant.2, take_all c.loop-i.i a.bytes.now (omega arith), n) (above _ _ _ _ _ (omega arith) refl)
+    rw (c.loop-i.invariant.1, take_all c.loop-i.i a.bytes.now (omega arith), n) (above _ _ _ _ _ (omega arith) refl)

@@ -1,5 +1,4 @@
 -- What refuses is settled first; then each turn stores one byte past what is written.
-use Prim.Native.Nat.{◌-◌, ◌≤◌}
 use mathlib.Core.Path.{◌≡◌}
 use mathlib.Core.Bool.{false}
 use lib.ListN.{length, take}
@@ -8,7 +7,4 @@ use Rattle.text.specs.Read.{not_digits, pairs_in}
 use Rattle.text.proofs.read_pairs.Given as goal
 
 abbrev pub invariant-loop-i : goal.invariant-loop-i
-invariant-loop-i l = (l.i ≤ l.n) × (length l.out ≡ length l.initial.out) × (not_digits l.word ≡ false) × (l.out ≡ over (take l.i (pairs_in l.word)) l.initial.out)
-
-abbrev pub decreases-loop-i : goal.decreases-loop-i
-decreases-loop-i l = l.n - l.i
+invariant-loop-i l = (length l.out ≡ length l.initial.out) × (not_digits l.word ≡ false) × (l.out ≡ over (take l.i (pairs_in l.word)) l.initial.out)

@@ -38,30 +38,3 @@ returns-in-Unk07 c = rw (c.in-Unk07.is, c.tells-in-Unk07.ensures) (refl, omega a
 
 pub returns-in-Read : goal.returns-in-Read
 returns-in-Read c = rw (c.in-Read.is, c.tells-in-Read.ensures, c.reading.ensures) (refl, omega arith)
-
-pub returns-in-WriteBiquad : goal.returns-in-WriteBiquad
-returns-in-WriteBiquad c = rw (c.in-WriteBiquad.is, c.tells-in-WriteBiquad.ensures) (refl, omega arith)
-
-pub returns-in-WriteBiquadBypass : goal.returns-in-WriteBiquadBypass
-returns-in-WriteBiquadBypass c = rw (c.in-WriteBiquadBypass.is, c.tells-in-WriteBiquadBypass.ensures) (refl, omega arith)
-
-pub returns-in-FirLoadData : goal.returns-in-FirLoadData
-returns-in-FirLoadData c = rw (c.in-FirLoadData.is, c.tells-in-FirLoadData.ensures) (refl, omega arith)
-
-pub returns-in-FirLoadEnd : goal.returns-in-FirLoadEnd
-returns-in-FirLoadEnd c = rw (c.in-FirLoadEnd.is, c.tells-in-FirLoadEnd.ensures) (refl, omega arith)
-
-pub returns-in-DiracBypass : goal.returns-in-DiracBypass
-returns-in-DiracBypass c = rw (c.in-DiracBypass.is, c.tells-in-DiracBypass.ensures) (refl, omega arith)
-
-pub returns-in-BulkLoad : goal.returns-in-BulkLoad
-returns-in-BulkLoad c = rw (c.in-BulkLoad.is, c.tells-in-BulkLoad.ensures) (refl, omega arith)
-
-pub returns-in-BulkLoadFilterData : goal.returns-in-BulkLoadFilterData
-returns-in-BulkLoadFilterData c = rw (c.in-BulkLoadFilterData.is, c.tells-in-BulkLoadFilterData.ensures) (refl, omega arith)
-
-pub returns-in-SwitchMux : goal.returns-in-SwitchMux
-returns-in-SwitchMux c = rw (c.in-SwitchMux.is, c.tells-in-SwitchMux.ensures) (refl, omega arith)
-
-pub returns-in-Unknown : goal.returns-in-Unknown
-returns-in-Unknown c = rw (c.in-Unknown.is, c.tells-in-Unknown.ensures) (refl, omega arith)

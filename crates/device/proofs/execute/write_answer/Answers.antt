@@ -4,5 +4,5 @@ use Rattle.device.proofs.execute.write_answer.Goals as goal
 pub returns-then-framed : goal.returns-then-framed
 returns-then-framed c = rw c.if-framed.true c.to_frame.ensures
 
-pub returns : goal.returns
-returns c = rw c.if-framed.false c.to_bytes.ensures
+pub returns-else-framed : goal.returns-else-framed
+returns-else-framed c = rw c.if-framed.false c.to_bytes.ensures

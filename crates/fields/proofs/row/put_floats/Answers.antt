@@ -5,6 +5,3 @@ use Rattle.fields.proofs.row.put_floats.Goals as goal
 
 pub overflow_mul-len : goal.overflow_mul-len
 overflow_mul-len c = omega (arith, was-inside _ _ c.requires)
-
-pub returns : goal.returns
-returns c = rw c.part.ensures at c.copy.ensures

@@ -1,5 +1,5 @@
 -- The rows, and the end record behind them.
-use Rattle.std.proofs.Common.{ℕ, ◌+◌, ◌*◌, [], ◌∷◌, ◌++◌, length, sym, refl, arith}
+use Rattle.std.proofs.Common.{◌≡◌, ℕ, ◌+◌, ◌*◌, [], ◌∷◌, ◌++◌, length, refl, arith}
 use Rattle.octets.proofs.Choosing.{below, above}
 use Rattle.octets.proofs.Overlay.{put_rest}
 use Rattle.intel_hex.specs.Format.{end_text}
@@ -18,6 +18,7 @@ returns c =
     let eeprom = a.eeprom.now in
     let l = a.out.now in
     let e = length eeprom in
-    let end : ℕ = 2 * e + 12 * rows_for e in
-    let whole = put_rest (export_rows eeprom (rows_for e)) l c.put_rows.ensures (end_text ++ (10 ∷ [])) end c.put.ensures (sym (rows_whole eeprom)) (omega arith) in
-    rw (whole, length-export eeprom) (above _ _ _ _ _ (omega arith) (above _ _ _ _ _ (omega arith) refl))
+    let rows : c.div_ceil-rows.result ≡ rows_for e = omega arith in
+    let end : ℕ = 2 * e + 12 * c.div_ceil-rows.result in
+    let whole = put_rest (export_rows eeprom (rows_for e)) l (rw rows at c.put_rows.ensures) (end_text ++ (10 ∷ [])) end c.put.ensures (omega (arith, rows, rows_whole eeprom)) (omega arith) in
+    rw (whole, rows, length-export eeprom) (above _ _ _ _ _ (omega arith) (above _ _ _ _ _ (omega arith) refl))

@@ -5,4 +5,4 @@ use Rattle.images.proofs.export.head_of.Goals as goal
 
 pub returns : goal.returns
 unfolding big_bytes
-returns c = rw (div-one c.args.start)
+returns c = rw (c.to_be_bytes.ensures, div-one c.args.start)

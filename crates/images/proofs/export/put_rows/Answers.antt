@@ -6,7 +6,7 @@ use Rattle.images.proofs.Exported.{rows_none, rows_next}
 use Rattle.images.proofs.export.put_rows.Goals as goal
 
 pub loop-k-init : goal.loop-k-init
-loop-k-init c = (omega arith, (refl, rows_none _ _))
+loop-k-init c = (refl, rows_none _ _)
 
 pub loop-k-preserved : goal.loop-k-preserved
 loop-k-preserved c =
@@ -15,4 +15,4 @@ loop-k-preserved c =
     let k = c.loop-k.k in
     let is : 44 * k ≡ length (export_rows e k) = omega (arith, length-rows e k) in
     let room : 44 * k + length (export_line e k) ≤ length a.out.now = omega (arith, length-line e k) in
-    (omega arith, rows_next e k (44 * k) a.out.now is room c.loop-k.invariant.1.1 c.put_row.ensures)
+    rows_next e k (44 * k) a.out.now is room c.loop-k.invariant.1 c.put_row.ensures

@@ -8,13 +8,13 @@ pub loop-rest-smaller : goal.loop-rest-smaller
 loop-rest-smaller c =
     let l = c.loop-rest in
     let row = rw (c.line_of.ensures, c.loop-rest-test.true) at c.place_line.ensures in
-    rw (cut-behind _ _ c.line_end-n.ensures.1) (placed-some l.rest.now l.image _ row)
+    rw (cut-behind _ _ c.line_end.ensures.1) (placed-some l.rest.now l.image _ row)
 
 pub loop-rest-preserved : goal.loop-rest-preserved
 loop-rest-preserved c =
     let l = c.loop-rest in
     let row = rw (c.line_of.ensures, c.loop-rest-test.true) at c.place_line.ensures in
-    (c.place_line.auto.image ∙ l.invariant.0, rw (cut-behind _ _ c.line_end-n.ensures.1) (sym (placed-more l.rest.now l.image _ row) ∙ l.invariant.1))
+    (c.place_line.auto.image ∙ l.invariant.0, rw (cut-behind _ _ c.line_end.ensures.1) (sym (placed-more l.rest.now l.image _ row) ∙ l.invariant.1))
 
 pub returns : goal.returns
 returns c =

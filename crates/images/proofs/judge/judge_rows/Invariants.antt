@@ -5,8 +5,8 @@ use Rattle.intel_hex.specs.Reading.{lines_in, rows_from, rows_in}
 use Rattle.images.specs.Inside.{Marked}
 use Rattle.images.proofs.judge.judge_rows.Given as goal
 
-abbrev pub invariant-loop-k : goal.invariant-loop-k
-invariant-loop-k l = (length l.marks ≡ length l.initial.marks) × (rows : List HexRow) × Marked l.marks rows × (rows_from l.size rows (lines_in l.rest) ≡ rows_in l.size l.hex)
+abbrev pub invariant-loop-rest : goal.invariant-loop-rest
+invariant-loop-rest l = (length l.marks ≡ length l.initial.marks) × (rows : List HexRow) × Marked l.marks rows × (rows_from l.size rows (lines_in l.rest) ≡ rows_in l.size l.hex)
 
-abbrev pub decreases-loop-k : goal.decreases-loop-k
-decreases-loop-k l = length l.rest
+abbrev pub decreases-loop-rest : goal.decreases-loop-rest
+decreases-loop-rest l = length l.rest

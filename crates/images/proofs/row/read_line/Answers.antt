@@ -1,5 +1,5 @@
 -- Its digits are read to the buffer, and the record from there.
-use Rattle.std.proofs.Common.{◌≡◌, ℕ, ◌-◌, ◌≤◌, List, [], ◌∷◌, length, take, drop, sym, ◌∙◌, arith, length-drop, take_all, rules}
+use Rattle.std.proofs.Common.{◌≡◌, ℕ, ◌-◌, ◌≤◌, List, [], ◌∷◌, length, take, drop, sym, ◌∙◌, arith, length-drop, refl, take_all, length-take-le, rules}
 use Rattle.octets.specs.Number.{at}
 use Rattle.images.proofs.OneLine.{no-colon, well-read, badly-read, line_read}
 use Rattle.images.proofs.row.read_line.Goals as goal
@@ -19,19 +19,25 @@ pub slice_bounds-record_of-end : goal.slice_bounds-record_of-end
 slice_bounds-record_of-end c =
     let a = c.args in
     let colon = sym c.byte.ensures ∙ c.if-byte-ne58.false in
-    let reading = well-read a.line.now colon a.bytes.now (search rules) _ _ (rw (digits_are a.line.now, c.in-Bytes.is) at c.read_pairs.ensures) in
+    let reading = well-read a.line.now colon a.bytes.now (search rules) _ _ (rw (digits_are a.line.now, c.in-Some.is) at c.read_pairs.ensures) in
     omega (arith, reading.room)
 
-pub returns-in-Bytes : goal.returns-in-Bytes
-returns-in-Bytes c =
+pub slice_bounds-record_of-end-2 : goal.slice_bounds-record_of-end-2
+slice_bounds-record_of-end-2 c =
     let a = c.args in
     let colon = sym c.byte.ensures ∙ c.if-byte-ne58.false in
-    let reading = well-read a.line.now colon a.bytes.now (search rules) _ _ (rw (digits_are a.line.now, c.in-Bytes.is) at c.read_pairs.ensures) in
-    let z : c.in-Bytes.n - 0 ≡ c.in-Bytes.n = omega arith in
-    line_read a.line.now colon _ _ reading _ (rw z) c.record_of.result c.record_of.ensures
+    let reading = well-read a.line.now colon a.bytes.now (search rules) _ _ (rw (digits_are a.line.now, c.in-Some.is) at c.read_pairs.ensures) in
+    sym (length-take-le c.in-Some.n _ reading.room)
 
-pub returns-in-Bad : goal.returns-in-Bad
-returns-in-Bad c =
+pub returns : goal.returns
+returns c =
     let a = c.args in
     let colon = sym c.byte.ensures ∙ c.if-byte-ne58.false in
-    (badly-read a.line.now colon a.bytes.now (search rules) _ (rw (digits_are a.line.now, c.in-Bad.is) at c.read_pairs.ensures), tt)
+    let reading = well-read a.line.now colon a.bytes.now (search rules) _ _ (rw (digits_are a.line.now, c.in-Some.is) at c.read_pairs.ensures) in
+    line_read a.line.now colon _ _ reading _ refl c.record_of.result c.record_of.ensures
+
+pub returns-in_default : goal.returns-in_default
+returns-in_default c =
+    let a = c.args in
+    let colon = sym c.byte.ensures ∙ c.if-byte-ne58.false in
+    (badly-read a.line.now colon a.bytes.now (search rules) _ (rw (digits_are a.line.now, c.in_default.is) at c.read_pairs.ensures), tt)

@@ -1,19 +1,17 @@
--- By the last byte.
-use Rattle.std.proofs.Common.{◌≡◌, ℕ, ◌-◌, List, [], ◌∷◌, length, sym, refl, arith}
+-- What stands before the CR, where there is one.
+use Rattle.std.proofs.Common.{◌≡◌, ℕ, List, [], ◌∷◌, ◌++◌, Option, None, Some, Bor, MatchOption, sym, ap, ◌∙◌}
+use Rattle.std.specs.Option.{unwrap_or}
+use Rattle.std.proofs.lemmas.Bool.Decides.{Decides-eqb}
+use Rattle.std.proofs.lemmas.Slice.Eq.{strip_suffix_is}
 use Rattle.intel_hex.specs.Reading.{without_cr}
-use Rattle.intel_hex.proofs.Cut.{cr-there, cr-not-there}
+use Rattle.intel_hex.proofs.Cut.{cr-cut, cr-kept}
 use Rattle.images.proofs.row.without_cr.Goals as goal
 
-empty : (l : List ℕ) → length l ≡ 0 → l ≡ without_cr l
-unfolding without_cr
-empty [] h = refl
-empty (b ∷ l) h = absurd (omega arith)
-
-pub returns-then-line-eq0 : goal.returns-then-line-eq0
-returns-then-line-eq0 c = empty _ c.if-line-eq0.true
-
-pub returns-then-line-last-eq13 : goal.returns-then-line-last-eq13
-returns-then-line-last-eq13 c = let l = c.args.line.now in let z : length l - 1 - 0 ≡ length l - 1 = omega arith in rw z (sym (cr-there l (length l - 1) (omega arith) c.if-line-last-eq13.true))
+stripped : (l : Bor (List ℕ)) (r : Option (Bor (List ℕ))) → MatchOption r ((front : List ℕ) → l.now ≡ front ++ (13 ∷ []) → ⊥) (λ x. l.now ≡ x.now ++ (13 ∷ [])) → (unwrap_or r l).now ≡ without_cr l.now
+stripped l None h = sym (cr-kept l.now h)
+stripped l (Some x) h = sym (ap without_cr h ∙ cr-cut x.now)
 
 pub returns : goal.returns
-returns c = let l = c.args.line.now in sym (cr-not-there l (length l - 1) (omega arith) c.if-line-last-eq13.false)
+returns c =
+    ap (λ (b : Bor (List ℕ)). b.now) c.unwrap_or.ensures
+    ∙ stripped c.args.line c.strip_suffix.result (strip_suffix_is Decides-eqb c.args.line.now (13 ∷ []) c.strip_suffix.result c.strip_suffix.ensures.cases)

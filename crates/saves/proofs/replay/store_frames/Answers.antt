@@ -19,9 +19,6 @@ slice_bounds-rest-count c = omega (arith, c.field_end-end.ensures, tag-whole c.l
 pub slice_bounds-rest-start : goal.slice_bounds-rest-start
 slice_bounds-rest-start c = omega (arith, c.field_end-end.ensures, tag-whole c.loop-rest.rest.now (is-frame (goal.at.slice_bounds-rest-start c).In-loop-rest))
 
-pub slice_bounds-rest-end : goal.slice_bounds-rest-end
-slice_bounds-rest-end c = omega (arith, c.field_end-end.ensures, tag-whole c.loop-rest.rest.now (is-frame (goal.at.slice_bounds-rest-end c).In-loop-rest))
-
 pub loop-rest-smaller : goal.loop-rest-smaller
 loop-rest-smaller c = rw (cut-behind c.loop-rest.rest.now c.field_end-end.result c.field_end-end.ensures) (behind-shorter c.loop-rest.rest.now (is-frame (goal.at.loop-rest-smaller c).In-loop-rest))
 

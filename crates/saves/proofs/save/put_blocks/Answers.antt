@@ -1,6 +1,6 @@
 -- After k turns the first k fields stand over the output.
 use Prim.Native.Nat.{◌+◌, ◌*◌, ◌≤◌}
-use mathlib.Core.Path.{◌≡◌, refl}
+use mathlib.Core.Path.{◌≡◌}
 use native.Mathlib.Omega.{arith}
 use lib.ListN.{length}
 use Rattle.saves.specs.Save.{memory_packet, rising}
@@ -8,7 +8,7 @@ use Rattle.saves.proofs.Saved.{length-blocks, length-memory-packet, rising_none,
 use Rattle.saves.proofs.save.put_blocks.Goals as goal
 
 pub loop-k-init : goal.loop-k-init
-loop-k-init c = (omega arith, (refl, rising_none _ _))
+loop-k-init c = rising_none _ _
 
 pub loop-k-preserved : goal.loop-k-preserved
 loop-k-preserved c =
@@ -17,7 +17,4 @@ loop-k-preserved c =
     let k = c.loop-k.k in
     let is : 40 * k ≡ length (rising (memory_packet e) k) = omega (arith, length-blocks e k) in
     let room : 40 * k + (length (memory_packet e k) + 5) ≤ length a.out.now = omega (arith, length-memory-packet e k) in
-    (omega arith, rising-next (memory_packet e) k (40 * k) a.out.now is room c.loop-k.invariant.1.1 c.put_block.ensures)
-
-pub returns : goal.returns
-returns c = let all : c.args.blocks ≡ c.loop-k.k = omega (arith, c.loop-k-test.false) in rw all c.loop-k.invariant.1.1
+    rising-next (memory_packet e) k (40 * k) a.out.now is room c.loop-k.invariant c.put_block.ensures

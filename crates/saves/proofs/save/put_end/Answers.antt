@@ -11,5 +11,5 @@ pub returns : goal.returns
 unfolding end_field
 returns c =
     let a = c.args in
-    let count = rw c.big_bytes32.ensures at c.put-2.ensures in
+    let count = rw c.big_bytes.ensures at c.put-2.ensures in
     field_put 0x7F 4 a.out.now c.head.ensures c.put.ensures (big_bytes 4 a.frames) count (sym (length-big 4 a.frames)) (omega arith)

@@ -13,4 +13,4 @@ returns c =
     let a = c.args in
     let l = a.out.now in
     let h : List ℕ = 0x04 ∷ big_bytes 2 a.addr in
-    put_rest h l (put-over h l (rw c.big_bytes16-place.ensures at c.put.ensures) (omega arith)) a.block.now 3 c.put-2.ensures refl (omega arith)
+    put_rest h l (put-over h l (rw (c.big_bytes.ensures, c.from.ensures) at c.put.ensures) (omega arith)) a.block.now 3 c.put-2.ensures refl (omega arith)

@@ -1,6 +1,6 @@
 -- After k turns the first k fields stand over the output.
 use Prim.Native.Nat.{◌+◌, ◌*◌, ◌≤◌}
-use mathlib.Core.Path.{◌≡◌, refl}
+use mathlib.Core.Path.{◌≡◌}
 use native.Mathlib.Omega.{arith}
 use lib.ListN.{length}
 use Rattle.saves.specs.Save.{word_packet, rising}
@@ -8,7 +8,7 @@ use Rattle.saves.proofs.Saved.{length-words, length-word-packet, rising_none, ri
 use Rattle.saves.proofs.save.put_settings.Goals as goal
 
 pub loop-k-init : goal.loop-k-init
-loop-k-init c = (omega arith, (refl, rising_none _ _))
+loop-k-init c = rising_none _ _
 
 pub loop-k-preserved : goal.loop-k-preserved
 loop-k-preserved c =
@@ -17,7 +17,4 @@ loop-k-preserved c =
     let k = c.loop-k.k in
     let is : 13 * k ≡ length (rising (word_packet s) k) = omega (arith, length-words s k) in
     let room : 13 * k + (length (word_packet s k) + 5) ≤ length a.out.now = omega (arith, length-word-packet s k) in
-    (omega arith, rising-next (word_packet s) k (13 * k) a.out.now is room c.loop-k.invariant.1.1 c.put_setting.ensures)
-
-pub returns : goal.returns
-returns c = let all : length c.args.settings.now ≡ c.loop-k.k = omega (arith, c.loop-k-test.false) in rw all c.loop-k.invariant.1.1
+    rising-next (word_packet s) k (13 * k) a.out.now is room c.loop-k.invariant c.put_setting.ensures

@@ -1,13 +1,8 @@
 -- After k turns the first k fields stand over the output.
-use Prim.Native.Nat.{◌-◌, ◌≤◌}
 use mathlib.Core.Path.{◌≡◌}
-use lib.ListN.{length}
 use Rattle.octets.specs.Over.{over}
 use Rattle.saves.specs.Save.{word_packet, rising}
 use Rattle.saves.proofs.save.put_settings.Given as goal
 
 abbrev pub invariant-loop-k : goal.invariant-loop-k
-invariant-loop-k l = (l.k ≤ length l.settings) × ((length l.out ≡ length l.initial.out) × (l.out ≡ over (rising (word_packet l.settings) l.k) l.initial.out))
-
-abbrev pub decreases-loop-k : goal.decreases-loop-k
-decreases-loop-k l = length l.settings - l.k
+invariant-loop-k l = l.out ≡ over (rising (word_packet l.settings) l.k) l.initial.out

@@ -21,7 +21,8 @@ returns c =
     let e = length m.eeprom in
     let s = length m.settings in
     let words : ℕ = 11 + e + 8 * blocks e in
+    let count : c.div_ceil-blocks.result ≡ blocks e = omega (arith, c.div_ceil-blocks.ensures) in
     let enough : room e s ≤ length a.out.now = omega arith in
-    let whole = parts-put m a.out.now enough words (words + 13 * s) refl refl _ _ _ _ c.put_shape.ensures c.put_blocks.ensures c.put_settings.ensures c.put_end.ensures in
+    let whole = parts-put m a.out.now enough words (words + 13 * s) refl refl _ _ _ _ c.put_shape.ensures (rw count at c.put_blocks.ensures) (rw count at c.put_settings.ensures) (rw count at c.put_end.ensures) in
     let size : words + 13 * s + 7 ≡ room e s = omega arith in
-    rw (whole, length-save m, ← size) (above _ _ _ _ _ (omega arith) refl)
+    rw (count, whole, length-save m, ← size) (above _ _ _ _ _ (omega arith) refl)

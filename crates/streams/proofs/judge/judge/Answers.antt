@@ -1,4 +1,5 @@
 use Rattle.std.proofs.Common.{◌≡◌, sym, refl, ap}
+use Rattle.std.proofs.lemmas.Result.{err_from_is_err_and}
 use Rattle.octets.specs.Outcome.{on_accepted, and_then}
 use Rattle.octets.proofs.Choosing.{below, above}
 use Rattle.streams.specs.Stream.{shape_of}
@@ -16,9 +17,10 @@ pub returns-then-save-gt-LONGEST_SAVE : goal.returns-then-save-gt-LONGEST_SAVE
 unfolding judged_of
 returns-then-save-gt-LONGEST_SAVE c = ap (on_accepted (λ (s : Save). s.shape)) (below _ _ _ _ _ c.if-save-gt-LONGEST_SAVE.true refl)
 
-pub returns-in-Sound : goal.returns-in-Sound
-returns-in-Sound c =
-    rw (short (goal.at.returns-in-Sound c).Else-save-gt-LONGEST_SAVE, ← c.shape_of.ensures, c.in-Sound.is) c.judge_sized.ensures
+pub returns : goal.returns
+returns c = rw (short (goal.at.returns c).Else-save-gt-LONGEST_SAVE, ← c.in_ok-shape_of.ensures) c.judge_sized.ensures
 
-pub returns-in-Refused : goal.returns-in-Refused
-returns-in-Refused c = rw (short (goal.at.returns-in-Refused c).Else-save-gt-LONGEST_SAVE, ← c.shape_of.ensures, c.in-Refused.is)
+pub returns-in_err-shape_of : goal.returns-in_err-shape_of
+returns-in_err-shape_of c =
+    let p = err_from_is_err_and c.from_residual.result c.from_residual.ensures.1 in
+    rw (p.1, p.2, short (goal.at.returns-in_err-shape_of c).Else-save-gt-LONGEST_SAVE, ← c.in_err-shape_of.ensures)

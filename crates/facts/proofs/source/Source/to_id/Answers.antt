@@ -1,28 +1,22 @@
--- The entries before place i hold other sources: their numbers differ.
-use mathlib.Core.Path.{sym, ◌∙◌}
-use native.Mathlib.Omega.{arith}
-use Rattle.facts.proofs.Sources.{inside, start, next, hit, out}
+-- The first entry that the search stops at, or none.
+use mathlib.Core.Path.{◌≡◌}
+use borrow.Author.Rules.{rules}
+use Rattle.std.proofs.Common.{Some, None}
+use Rattle.std.proofs.lemmas.Iterator.{first_from_find, YieldsList-from_slice}
+use Rattle.facts.specs.Source.{mapping_of, source_number}
+use Rattle.facts.proofs.Sources.{Other, entries_of, found, not_found, same_number, other_number}
 use Rattle.facts.proofs.source.Source.to_id.Goals as goal
 
-pub offset_bounds-m-i : goal.offset_bounds-m-i
-offset_bounds-m-i c = omega (arith, inside _ _ c.mapping-m.ensures c.loop-i-test.true)
+pub returns-in-Some : goal.returns-in-Some
+returns-in-Some c =
+    let l = mapping_of c.args.info.hw_id c.args.info.dsp_version in
+    let e = entries_of l c.mapping-mapping.ensures c.used.ensures in
+    let first = first_from_find c.find.new.self _ (Some c.in-Some.entry) (λ e. source_number e.source ≡ (source_number c.args.self)) (Other (λ e. source_number e.source) (source_number c.args.self) (λ e. e.id) 0) c.in-Some.ensures.ran (YieldsList-from_slice l cc) (λ x q h. search (rules, same_number)) (λ x q h. search (rules, other_number)) in
+    found (λ e. source_number e.source) (source_number c.args.self) (λ e. e.id) 0 l c.in-Some.entry.now first.0 first.1 first.2 first.3 first.4
 
-pub bounds-m-i : goal.bounds-m-i
-bounds-m-i c = inside _ _ c.mapping-m.ensures c.loop-i-test.true
-
-pub returns-then-source_number-wanted : goal.returns-then-source_number-wanted
-returns-then-source_number-wanted c =
-    let same = sym c.source_number.ensures ∙ c.if-source_number-wanted.true in
-    rw (← c.source_number-wanted.ensures) (hit c.loop-i.invariant _ c.mapping-m.ensures c.loop-i-test.true same)
-
-pub loop-i-preserved : goal.loop-i-preserved
-loop-i-preserved c =
-    next c.loop-i.invariant c.loop-i-test.true
-    (λ e. c.if-source_number-wanted.false (c.source_number.ensures ∙ e))
-
-pub returns : goal.returns
-returns c =
-    rw (← c.source_number-wanted.ensures) (out c.loop-i.invariant _ c.mapping-m.ensures c.loop-i-test.false)
-
-pub loop-i-init : goal.loop-i-init
-loop-i-init c = start
+pub returns-in-None : goal.returns-in-None
+returns-in-None c =
+    let l = mapping_of c.args.info.hw_id c.args.info.dsp_version in
+    let e = entries_of l c.mapping-mapping.ensures c.used.ensures in
+    not_found (λ e. source_number e.source) (source_number c.args.self) (λ e. e.id) 0 l
+    (first_from_find c.find.new.self _ None (λ e. source_number e.source ≡ (source_number c.args.self)) (Other (λ e. source_number e.source) (source_number c.args.self) (λ e. e.id) 0) c.in-None.ensures.ran (YieldsList-from_slice l cc) (λ x q h. search (rules, same_number)) (λ x q h. search (rules, other_number)))

@@ -1,9 +1,9 @@
 -- Outside, or what `join` answers of both views' bytes.
-use mathlib.Core.Path.{refl, ap}
-use native.Mathlib.Omega.{arith}
+use Rattle.std.proofs.Common.{refl, ap, arith}
+use Rattle.std.proofs.lemmas.Result.{err_from_is_err_and}
 use Rattle.octets.proofs.Choosing.{below, above}
-use Rattle.views.specs.Joining.{floats_join, viewed}
 use Rattle.octets.proofs.Parts.{found-outside, found_inside}
+use Rattle.views.specs.Joining.{floats_join, viewed}
 use Rattle.views.proofs.floats.FloatView.extend_with.Goals as goal
 
 pub returns-then-is_outside : goal.returns-then-is_outside
@@ -18,17 +18,24 @@ returns-then-is_outside-2 c =
     ap (viewed _) (above _ _ _ _ _ h (below _ _ _ _ _ k refl))
 
 pub place-requires : goal.place-requires
-place-requires c =
-    omega (arith, found_inside _ _ c.is_outside.ensures c.if-is_outside.false)
+place-requires c = omega (arith, found_inside _ _ c.is_outside.ensures c.if-is_outside.false)
 
 pub place-requires-2 : goal.place-requires-2
-place-requires-2 c =
-    omega (arith, found_inside _ _ c.is_outside-2.ensures c.if-is_outside-2.false)
+place-requires-2 c = omega (arith, found_inside _ _ c.is_outside-2.ensures c.if-is_outside-2.false)
+
+pub returns-in_err-len : goal.returns-in_err-len
+unfolding floats_join
+returns-in_err-len c =
+    let h = found_inside _ _ c.is_outside.ensures c.if-is_outside.false in
+    let k = found_inside _ _ c.is_outside-2.ensures c.if-is_outside-2.false in
+    let e = rw (c.part-first.ensures, c.part-second.ensures, c.place.ensures, c.place-2.ensures) at c.in_err-len.ensures in
+    let p = err_from_is_err_and c.from_residual.result c.from_residual.ensures.1 in
+    rw (p.1, p.2) (ap (viewed _) (above _ _ _ _ _ h (above _ _ _ _ _ k e)))
 
 pub returns : goal.returns
 unfolding floats_join
 returns c =
     let h = found_inside _ _ c.is_outside.ensures c.if-is_outside.false in
     let k = found_inside _ _ c.is_outside-2.ensures c.if-is_outside-2.false in
-    let e = rw (c.part-first.ensures, c.part-second.ensures, c.place.ensures, c.place-2.ensures) at c.join-answer.ensures in
-    rw c.joined_floats.ensures (ap (viewed _) (above _ _ _ _ _ h (above _ _ _ _ _ k e)))
+    let e = rw (c.part-first.ensures, c.part-second.ensures, c.place.ensures, c.place-2.ensures) at c.in_ok-len.ensures in
+    ap (viewed _) (above _ _ _ _ _ h (above _ _ _ _ _ k e))

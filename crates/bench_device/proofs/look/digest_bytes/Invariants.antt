@@ -1,9 +1,0 @@
--- One byte more.
-use Rattle.std.proofs.Common.{◌-◌, ◌≤◌, length}
-use Rattle.bench_device.proofs.look.digest_bytes.Given as goal
-
-abbrev pub invariant-loop-i : goal.invariant-loop-i
-invariant-loop-i l = l.i ≤ length l.eeprom
-
-abbrev pub decreases-loop-i : goal.decreases-loop-i
-decreases-loop-i l = length l.eeprom - l.i

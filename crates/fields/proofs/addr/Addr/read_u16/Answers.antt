@@ -1,9 +1,0 @@
--- Each way out is one branch of the definition.
-use Rattle.octets.proofs.Choosing.{tests}
-use Rattle.fields.proofs.addr.Addr.read_u16.Goals as goal
-
-pub returns-then-buf-lt2 : goal.returns-then-buf-lt2
-returns-then-buf-lt2 c = search tests
-
-pub returns : goal.returns
-returns c = rw c.at.ensures (search tests)

@@ -1,8 +1,0 @@
--- The name with the number, the line's end.
-use Rattle.listed.specs.Listing.{end_line}
-use Rattle.listed.proofs.Adding.{adds-adds}
-use Rattle.listed.proofs.add_end.Goals as goal
-
-pub returns : goal.returns
-unfolding end_line
-returns c = adds-adds c.add_number-behind_frames.ensures c.add.ensures

@@ -1,8 +1,0 @@
--- Each byte is one digit; the last is that of n / 1.
-use native.Mathlib.Nat.{div-one}
-use Rattle.octets.specs.Number.{little_bytes}
-use Rattle.octets.proofs.number.little_bytes32.Goals as goal
-
-pub returns : goal.returns
-unfolding little_bytes
-returns c = rw (div-one c.args.n)

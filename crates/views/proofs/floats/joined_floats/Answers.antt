@@ -1,8 +1,0 @@
--- The answer's case decides.
-use Rattle.views.proofs.floats.joined_floats.Goals as goal
-
-pub returns-in-Bytes : goal.returns-in-Bytes
-returns-in-Bytes c = rw c.in-Bytes.is
-
-pub returns-in-Refused : goal.returns-in-Refused
-returns-in-Refused c = rw c.in-Refused.is
