@@ -29,19 +29,17 @@ fn peek_words(start: u32, settings: &[u32], out: &mut [u8]) -> Answer {
 
 // How much of each memory is lent, and a number that depends on what stands at each place.
 fn digest(eeprom: &[u8], settings: &[u32]) -> Answer {
-    let bytes = digest_bytes(eeprom);
-    let words = digest_words(settings);
+    let bytes = digest_of(eeprom);
+    let words = digest_of(settings);
     of(low(eeprom.len()), bytes, low(settings.len()), words)
 }
 
-fn digest_bytes(eeprom: &[u8]) -> u32 {
-    eeprom
-        .iter()
-        .fold(0, |sum, byte| digest_with(sum, u32::from(*byte)))
-}
-
-fn digest_words(settings: &[u32]) -> u32 {
-    settings.iter().fold(0, |sum, word| digest_with(sum, *word))
+fn digest_of<T: Copy + Into<u32>>(memory: &[T]) -> u32 {
+    let mut sum = 0;
+    for next in memory {
+        sum = digest_with(sum, (*next).into());
+    }
+    sum
 }
 
 // The factor is odd, so that a change at one place always shows.

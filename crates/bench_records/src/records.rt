@@ -1,4 +1,5 @@
-// Commands and responses by their numbers: that of their kind, and those of their fields in order.
+// Commands and responses by their numbers: that of their kind, and those of their fields in order. A kind is a number here, since
+// it is the row of a name in the bench's table, which lists several names in a row.
 use crate::values::*;
 use bench_words::*;
 use commands::Commands::*;

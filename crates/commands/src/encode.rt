@@ -70,7 +70,8 @@ fn command_row(command: Commands, values: [Value; 5]) -> [Field; 8]
     }
 }
 
-// A code and what stands behind it.
+// Rows of the shapes that several commands have. Each is one call, and one for all shapes would say at each command what these
+// say once.
 fn byte_row(code: u8, value: u8) -> [Field; 8]
     ensures { result ≡ padded (Byte code ∷ Byte value ∷ []) }
 {

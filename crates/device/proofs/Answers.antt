@@ -1,5 +1,5 @@
 -- The answer is settled in one step and what it leaves in another.
-use Prim.Native.Nat.{ℕ, ◌≤◌}
+use Prim.Native.Nat.{ℕ, ◌-◌, ◌≤◌}
 use mathlib.Core.Path.{◌≡◌, sym, ap, ◌∙◌}
 use mathlib.Core.List.{List}
 use native.Mathlib.Omega.{arith}
@@ -23,6 +23,10 @@ module _ (w z : List ℕ) {o : List ℕ} (wrote : o ≡ over w z) where
   unfolding over
   over-le = rw (wrote, length-append w (drop (length w) z)) (omega arith)
 
-  pub over_first : (n : ℕ) → n ≡ length w → take n o ≡ w
+  pub over-front : (n : ℕ) → n ≡ length w → take n o ≡ w
   unfolding over
-  over_first n e = rw wrote (take_at w (drop (length w) z) n (sym e))
+  over-front n e = rw wrote (take_at w (drop (length w) z) n (sym e))
+
+  -- the same as a part of a slice
+  pub over_first : (n : ℕ) → n ≡ length w → take (n - 0) (drop 0 o) ≡ w
+  over_first n e = let same : n - 0 ≡ n = omega arith in rw same (over-front n e)

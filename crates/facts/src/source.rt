@@ -27,7 +27,8 @@ pub struct Entry {
     pub id: u8,
 }
 
-// The first count entries are a device's; the others are unused.
+// The first count entries are a device's; the others are unused. Fixed memory is a rule of the project, and the contract of `mapping`
+// (`seven_of`) says so of both fields.
 #[derive(Clone, Copy, Debug, PartialEq, Eq)]
 pub struct Mapping {
     pub count: usize,

@@ -193,7 +193,8 @@ pub fn frame(row: [Field; 8], payload: &[u8], out: &mut [u8]) -> Result<usize, R
     packet::close_with(put.len, put.sum, out)
 }
 
-// Rows of one to four fields.
+// Rows of one to four fields. Not one function over `[Field; N]`: it would have to ask that N is at most 8, and no public function
+// requires.
 #[tactic(auto, unfolding(crate::specs::Row::padded, crate::specs::Row::nothings))]
 pub fn row1(a: Field) -> [Field; 8]
     ensures { result ≡ padded (a ∷ []) }

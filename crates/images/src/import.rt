@@ -21,7 +21,7 @@ pub fn import(hex: &[u8], image: &mut [u8]) -> Result<(), Refusal>
     Ok(())
 }
 
-// Places the rows of a text up to its end record.
+// Places the rows of a text up to its end record. A `while`, since where a line ends is found as it is read.
 fn place_rows(hex: &[u8], image: &mut [u8])
     ensures { image.new ≡ placed (rows_here (lines_in hex.now)) image.old }
 {

@@ -34,6 +34,7 @@ fn judge_sized(hex: &[u8], size: usize) -> Result<(), Refusal>
     judge_rows(hex, size, &mut marks)
 }
 
+// A `while`, since where a line ends is found as it is read.
 fn judge_rows(hex: &[u8], size: usize, marks: &mut [u8]) -> Result<(), Refusal>
     requires { (size ≤ 65536) × (marks.old ≡ replicate 8192 0) }
     ensures { outcome result ≡ on_accepted (λ rows. tt) (rows_in size hex.now) }

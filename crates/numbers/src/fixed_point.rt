@@ -10,6 +10,7 @@ use crate::float::{from_bits, to_bits};
 #[derive(Clone, Copy)]
 pub struct FixedPoint(pub u32);
 
+// By the names that docs/DIFFERENCES.md gives them, in place of the traits.
 impl FixedPoint {
     pub fn default() -> Self
         ensures { result.0 ≡ 0 }

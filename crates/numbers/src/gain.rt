@@ -22,6 +22,7 @@ impl Gain {
         0.0
     }
 
+    // By the names that docs/DIFFERENCES.md gives them, in place of the traits.
     pub fn default() -> Self
         ensures { result.0 ≡ from_bits binary32 0 }
     {

@@ -10,6 +10,8 @@ pub fn byte(bytes: &[u8], place: usize) -> u8
     bytes.get(place).copied().unwrap_or(0)
 }
 
+// A reader for each width and order: one over a const width would have to ask that its number fits the answer's type, and no
+// public function requires; a trait for u16 and u32 would say each body again.
 // Two bytes, the most significant first.
 pub fn big16(bytes: &[u8], place: usize) -> u16
     ensures { result ≡ big_at 2 bytes.now place }

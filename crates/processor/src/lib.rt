@@ -11,6 +11,9 @@ pub mod change;
 pub mod create;
 pub mod eeprom;
 
+// The two memories are lent as two slices wherever they go together: so the C interface lends them, and so the contracts of this
+// crate, of device and of saves name them, which may not change.
+
 // What a device is beside its memories.
 #[derive(Clone, Copy)]
 pub struct Device {

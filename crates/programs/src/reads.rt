@@ -12,6 +12,7 @@ pub fn read_full<R: Read>(input: &mut R, bytes: &mut [u8]) -> io::Result<usize>
     ensures came { IfOk result (λ n. Consumes (R.remaining input.old) (R.remaining input.new) (take n bytes.new)) }
     ensures whole { IfOk result (λ n. n < length bytes.new → IsAtEnd (R.remaining input.new)) }
 {
+    // a `while`, since each read says itself how much came
     let mut done = 0;
     while done < bytes.len() {
         let n = input.read(&mut bytes[done..])?;

@@ -9,6 +9,7 @@ use octets::Refusal;
 use views::floats::FloatView;
 use views::memory::MemoryView;
 
+// A pair for each kind, by the Rust's names: what a kind holds is of a type of its own.
 impl Responses {
     pub fn is_memory_view(self) -> bool
         ensures { result ≡ is_accepted (by_kind self).memory }

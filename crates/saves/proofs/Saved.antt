@@ -11,7 +11,7 @@ use Rattle.octets.specs.Place.{place_at, part_of}
 use Rattle.octets.specs.Outcome.{Outcome}
 use Rattle.octets.specs.Over.{over, into}
 use Rattle.octets.proofs.InBytes.{length-big, length-little}
-use Rattle.octets.proofs.Overlay.{put-over, put_rest, over-rest}
+use Rattle.octets.proofs.Overlay.{put-over, put_rest, over-rest, over-next}
 use Rattle.octets.proofs.Parts.{part-short}
 use Rattle.packet.proofs.Frames.{length-frame}
 use Rattle.fields.specs.Addr.{addr_bytes}
@@ -173,6 +173,6 @@ unfolding rising over
 rising_none packet l = refl
 
 module _ (packet : ℕ → List ℕ) (k at : ℕ) (l : List ℕ) (is : at ≡ length (rising packet k)) (room : at + (length (packet k) + 5) ≤ length l) {o y : List ℕ} (wrote : o ≡ over (rising packet k) l) (put : y ≡ over (frame_field (packet k)) (take (length o - at) (drop at o))) where
-  pub rising-next : take at o ++ (y ++ drop (length o - at) (drop at o)) ≡ over (rising packet (k + 1)) l
+  pub rising-next : (length (take at o ++ (y ++ drop (length o - at) (drop at o))) ≡ length l) × (take at o ++ (y ++ drop (length o - at) (drop at o)) ≡ over (rising packet (k + 1)) l)
   unfolding rising
-  rising-next = rw add-one (over-rest (rising packet k) l wrote (frame_field (packet k)) y at put is (omega (arith, length-frame-field (packet k))))
+  rising-next = over-next (rising packet k) l wrote (frame_field (packet k)) y (rising packet (k + 1)) at (ap (rising packet) (add-one k)) put is (omega (arith, length-frame-field (packet k)))

@@ -9,6 +9,8 @@ ghost use Rattle.views.specs.Joining.{floats_join};
 use crate::{join, view_part};
 use octets::{Place, Refusal, number};
 
+// Not one view with a type of its items: a memory view's place may have any length and is cut where the Rust cuts it, and floats are
+// counted in fours.
 // As many floats as count says, from start on, of four little-endian bytes each.
 #[derive(Clone, Copy, Debug, PartialEq, Eq)]
 pub struct FloatView {

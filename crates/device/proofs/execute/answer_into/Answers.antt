@@ -6,7 +6,7 @@ use Rattle.std.proofs.lemmas.Result.{err_from_is_err_and}
 use Rattle.octets.specs.Outcome.{accepted}
 use Rattle.processor.specs.Memory.{memory}
 use Rattle.processor.specs.Change.{writes_in}
-use Rattle.device.proofs.Answers.{settled, over-le, over_first}
+use Rattle.device.proofs.Answers.{settled, over-le, over-front}
 use Rattle.device.proofs.execute.answer_into.Goals as goal
 
 pub put_data-n-requires : goal.put_data-n-requires
@@ -31,7 +31,7 @@ returns-in_err-written c =
     let put = c.put_data-n.ensures in
     let writes = writes_in c.args.payload.now c.in_ok-plan.plan.change in
     let before = memory c.args.eeprom.now c.args.settings.now in
-    let wrote = rw (over_first _ _ put.1 _ put.0, c.in_err-written.was) at c.write_answer.ensures in
+    let wrote = rw (over-front _ _ put.1 _ put.0, c.in_err-written.was) at c.write_answer.ensures in
     rw (p.1, p.2, ← c.decide.ensures.0, c.in_ok-plan.was) (settled writes before _ wrote refl)
 
 pub returns : goal.returns
@@ -39,5 +39,5 @@ returns c =
     let put = c.put_data-n.ensures in
     let writes = writes_in c.args.payload.now c.in_ok-plan.plan.change in
     let before = memory c.args.eeprom.now c.args.settings.now in
-    let wrote = rw (over_first _ _ put.1 _ put.0, c.in_ok-written.was) at c.write_answer.ensures in
+    let wrote = rw (over-front _ _ put.1 _ put.0, c.in_ok-written.was) at c.write_answer.ensures in
     rw (← c.decide.ensures.0, c.in_ok-plan.was) (settled writes before _ wrote (λ i. (accepted c.in_ok-written.written, c.store.ensures i)))

@@ -17,4 +17,4 @@ loop-k-preserved c =
     let k = c.loop-k.k in
     let is : 40 * k ≡ length (rising (memory_packet e) k) = omega (arith, length-blocks e k) in
     let room : 40 * k + (length (memory_packet e k) + 5) ≤ length a.out.now = omega (arith, length-memory-packet e k) in
-    rising-next (memory_packet e) k (40 * k) a.out.now is room c.loop-k.invariant c.put_block.ensures
+    (rising-next (memory_packet e) k (40 * k) a.out.now is room c.loop-k.invariant c.put_block.ensures).1

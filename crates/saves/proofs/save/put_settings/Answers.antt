@@ -17,4 +17,4 @@ loop-k-preserved c =
     let k = c.loop-k.k in
     let is : 13 * k ≡ length (rising (word_packet s) k) = omega (arith, length-words s k) in
     let room : 13 * k + (length (word_packet s k) + 5) ≤ length a.out.now = omega (arith, length-word-packet s k) in
-    rising-next (word_packet s) k (13 * k) a.out.now is room c.loop-k.invariant c.put_setting.ensures
+    (rising-next (word_packet s) k (13 * k) a.out.now is room c.loop-k.invariant c.put_setting.ensures).1
