@@ -1,7 +1,7 @@
 // The words of the bench: one table of its verbs and names, and what is read and answered by it.
 #![tactic(auto)]
 
-ghost use Rattle.std.specs.Prelude.{◌≡◌, length};
+ghost use Rattle.std.specs.Prelude.{◌≡◌, length, slice_range};
 
 pub mod read;
 pub mod table;
@@ -18,17 +18,22 @@ pub type Record = [u32; 7];
 pub const SECOND_PART: usize = 20;
 
 // The record that begins with the third number.
-pub fn first_record(n: Numbers) -> Record {
+pub fn first_record(n: Numbers) -> Record
+    ensures { result ≡ slice_range n 2 9 }
+{
     record_of(&n[2..9])
 }
 
 // The record that begins with the third number behind `@`.
-pub fn second_record(n: Numbers) -> Record {
+pub fn second_record(n: Numbers) -> Record
+    ensures { result ≡ slice_range n 22 29 }
+{
     record_of(&n[SECOND_PART + 2..SECOND_PART + 9])
 }
 
 fn record_of(n: &[u32]) -> Record
     requires { length n.now ≡ 7 }
+    ensures { result ≡ n.now }
 {
     let mut record = [0; 7];
     record.copy_from_slice(n);
@@ -73,7 +78,9 @@ pub fn of(a: u32, b: u32, c: u32, d: u32) -> Answer {
     of_numbers(numbers)
 }
 
-pub fn of_numbers(numbers: Numbers) -> Answer {
+pub fn of_numbers(numbers: Numbers) -> Answer
+    ensures { result.numbers ≡ numbers }
+{
     Answer {
         form: Form::OfRequest,
         numbers,
