@@ -18,7 +18,8 @@ pub fn write_save(files: &impl Files, name: &[u8], saved: &[u8]) -> Answer {
     }
 }
 
-// All of a file is read before anything that is kept changes.
+// All of a file is read before anything that is kept changes. A call of its own, so that no other request takes its million bytes of stack.
+#[inline(never)]
 pub fn read_save(files: &impl Files, name: &[u8], held: &mut Held, kept: &mut [u8]) -> Answer {
     let mut came = [0u8; MOST];
     lent_whole(files, name, &mut came, held, kept)

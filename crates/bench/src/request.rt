@@ -58,6 +58,8 @@ fn print_by(
     print(rt, answer, request.answer, given, lent)
 }
 
+// A call of its own, so that its output lies on the stack while it is put and no longer.
+#[inline(never)]
 fn print(rt: &impl Print, answer: Answer, own: usize, given: &[u8], lent: &[u8]) -> io::Result<()> {
     let mut output = [0u8; 131072];
     let end = bench_answers::put(answer, own, given, lent, &mut output, 0);

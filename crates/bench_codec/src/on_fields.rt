@@ -3,7 +3,6 @@ use bench_records::values::*;
 use bench_words::*;
 use fields::addr::*;
 use fields::value::*;
-use octets::Refusal;
 
 pub fn ask(verb: usize, n: Numbers, bytes: &[u8], out: &mut [u8]) -> Answer {
     let [a, b, c, d, e, ..] = n;
@@ -22,7 +21,7 @@ pub fn of_addr(addr: Addr) -> Answer {
     of(addr.len as u32, addr.extra_bit as u32, addr.val, 0)
 }
 
-pub fn read_value(read: Result<Value, Refusal>) -> Answer {
+pub fn read_value(read: Result<Value, impl Into<u8>>) -> Answer {
     match read {
         Ok(one) => value(one),
         Err(k) => refused(k),

@@ -3,7 +3,6 @@ use crate::on_packet::at;
 use bench_records::records::*;
 use bench_words::read::SECOND_BYTES;
 use bench_words::*;
-use octets::Refusal;
 use views::floats::*;
 use views::memory::*;
 
@@ -40,14 +39,14 @@ fn join(verb: usize, n: Numbers, bytes: &[u8], out: &mut [u8]) -> Answer {
     })
 }
 
-pub fn memory(joined: Result<MemoryView, Refusal>) -> Answer {
+pub fn memory(joined: Result<MemoryView, impl Into<u8>>) -> Answer {
     match joined {
         Ok(MemoryView { base, data }) => { of(u32::from(base), low(data.start), low(data.len), 0) }
         Err(k) => refused(k),
     }
 }
 
-pub fn floats(joined: Result<FloatView, Refusal>) -> Answer {
+pub fn floats(joined: Result<FloatView, impl Into<u8>>) -> Answer {
     match joined {
         Ok(view) => of(view.base as u32, low(view.start), low(view.count), 0),
         Err(k) => refused(k),

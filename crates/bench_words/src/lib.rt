@@ -6,7 +6,7 @@ ghost use Rattle.std.specs.Prelude.{◌≡◌, length, slice_range};
 pub mod read;
 pub mod table;
 
-use octets::{Place, Refusal};
+use octets::Place;
 
 // The numbers of a request's words, or of an answer's.
 pub type Numbers = [u32; 32];
@@ -115,7 +115,7 @@ pub fn refused(refusal: impl Into<u8>) -> Answer {
 }
 
 // Of a function that writes: the whole output follows.
-pub fn written(answer: Result<usize, Refusal>) -> Answer {
+pub fn written(answer: Result<usize, impl Into<u8>>) -> Answer {
     match answer {
         Ok(n) => number(low(n)),
         Err(k) => with_output(refused(k)),
@@ -129,7 +129,7 @@ pub fn with_output(answer: Answer) -> Answer {
     }
 }
 
-pub fn done(answer: Result<(), Refusal>) -> Answer {
+pub fn done(answer: Result<(), impl Into<u8>>) -> Answer {
     match answer {
         Ok(()) => number(0),
         Err(k) => refused(k),

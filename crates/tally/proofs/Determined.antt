@@ -1,5 +1,5 @@
 -- Each public function's contract fixes its answer and what it leaves.
-use Rattle.std.specs.Prelude.{Result, Ok, Err}
+use Rattle.std.specs.Prelude.{Result}
 use Rattle.octets.specs.declared.refusal.Refusal.{Refusal}
 use mathlib.Core.Path.{◌≡◌, refl, sym, ap, ◌∙◌}
 use mathlib.Core.List.{List}
@@ -11,6 +11,9 @@ use prog.Routine.{Routine}
 use types.Logic.{Logic}
 use contract.Lifetimes.{Lfts}
 use contract.Monad.{Fun, fact}
+use denote.RattleType.{RattleType}
+use denote.Param.Laws.{Laws}
+use mir.Syntax.{Dict}
 use denote.Triple.Clauses.{AtExit}
 use denote.Triple.Entry.{Args, Res}
 use Rattle.octets.specs.Outcome.{outcome}
@@ -33,8 +36,8 @@ with-tally f same p q = let told = ap (λ (left : Result ℕ Refusal × Memory �
 pub zeroed-fixed : Fixes Tally zeroed.Post (λ κs answer left. answer)
 zeroed-fixed κs args a b x y p q = agree p q
 
-pub count-fixed : Fixes Tally count.Post (λ κs answer left. answer)
-count-fixed κs args a b x y p q = agree p q
+pub count-fixed : (E : RattleType) (laws : Laws E) (drop : Dict) → Fixes Tally (count.Post E laws drop) (λ κs answer left. answer)
+count-fixed E laws drop κs args a b x y p q = agree (p (λ refusal. 0)) (q (λ refusal. 0))
 
 pub receive-counted-fixed : Fixes (Result ℕ Refusal × Memory × List ℕ × Tally) receive-counted.Post (λ κs answer left. (answer.answer, memory left.1.1.1.0.now left.1.1.1.1.0.now, left.1.1.1.1.1.0.now, answer.tally))
 receive-counted-fixed κs args a b x y p q = with-tally (λ w. after args.0 (outcome w)) (three outcome outcome_once (agree p.0 q.0)) p.1 q.1

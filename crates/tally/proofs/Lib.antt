@@ -1,4 +1,5 @@
 pub mod Tallies
+pub mod Counting
 pub mod Said
 pub mod Values
 pub mod Determined

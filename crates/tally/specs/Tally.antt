@@ -1,5 +1,5 @@
 -- "A tally counts accepted and refused calls of the received-frame entry since zeroed, each holding at 4,294,967,295"
-use Rattle.std.specs.Prelude.{ℕ, ◌+◌, min, List, [], ◌∷◌}
+use Rattle.std.specs.Prelude.{ℕ, ◌+◌, min, Result, Ok, Err, List, [], ◌∷◌}
 use Rattle.octets.specs.Outcome.{Outcome, accepted, refused}
 use Rattle.tally.specs.declared.Tally.{Tally}
 
@@ -16,6 +16,11 @@ zeroed = tally_of 0 0
 abbrev pub after : {A : Type 0} → Tally → Outcome A → Tally
 after t (accepted a) = tally_of (min most_counted (t.accepted + 1)) t.refused
 after t (refused k) = tally_of t.accepted (min most_counted (t.refused + 1))
+
+-- what any code answers, whose refusals have these numbers
+abbrev pub outcome_by : {A E : Type 0} → (E → ℕ) → Result A E → Outcome A
+outcome_by number (Ok a) = accepted a
+outcome_by number (Err refusal) = refused (number refusal)
 
 -- after any answers, one after the other
 abbrev pub tally_after : {A : Type 0} → Tally → List (Outcome A) → Tally

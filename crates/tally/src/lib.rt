@@ -1,11 +1,8 @@
 // How many received frames were accepted and refused. (added)
 #![tactic(auto)]
 
-ghost use Rattle.std.specs.Prelude.{◌≡◌};
-ghost use Rattle.octets.specs.Outcome.{outcome};
-ghost use Rattle.tally.specs.Tally.{zeroed, after};
-
-use octets::Refusal;
+ghost use Rattle.std.specs.Prelude.{◌≡◌, ℕ};
+ghost use Rattle.tally.specs.Tally.{zeroed, after, outcome_by};
 
 pub mod receive;
 
@@ -26,9 +23,9 @@ impl Tally {
         }
     }
 
-    // The tally after one more answer.
-    pub fn count(self, answer: Result<usize, Refusal>) -> Self
-        ensures { result ≡ after self (outcome answer) }
+    // The tally after one more answer, whatever number its refusal has.
+    pub fn count<E: Drop>(self, answer: Result<usize, E>) -> Self
+        ensures { (number : E → ℕ) → result ≡ after self (outcome_by number answer) }
     {
         match answer {
             Ok(_) => Tally {
