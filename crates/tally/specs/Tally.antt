@@ -17,7 +17,7 @@ abbrev pub after : {A : Type 0} → Tally → Outcome A → Tally
 after t (accepted a) = tally_of (min most_counted (t.accepted + 1)) t.refused
 after t (refused k) = tally_of t.accepted (min most_counted (t.refused + 1))
 
--- what any code answers, whose refusals have these numbers
+-- an answer in these terms, whatever its refusal: a call counts as refused under any number that a reader gives it
 abbrev pub outcome_by : {A E : Type 0} → (E → ℕ) → Result A E → Outcome A
 outcome_by number (Ok a) = accepted a
 outcome_by number (Err refusal) = refused (number refusal)
